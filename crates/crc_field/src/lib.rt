@@ -1,0 +1,8 @@
+//! CRC-32 as yEnc uses it, and its text of eight hexadecimal digits.
+#![tactic(auto)]
+
+mod crc;
+mod hex;
+
+pub use crc::Crc;
+pub use hex::write_hex;

@@ -1,0 +1,3 @@
+pub mod DecimalDigits
+pub mod FlatLines
+pub mod NamedFiles

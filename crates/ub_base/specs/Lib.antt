@@ -1,0 +1,7 @@
+pub mod Causes
+pub mod InMemory
+pub mod Input
+pub mod Lines
+pub mod Links
+pub mod Sink
+pub mod Store

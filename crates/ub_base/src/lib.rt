@@ -1,0 +1,34 @@
+//! What every room of usebin shares: lists that grow, decimal numbers, and the traits of the outside with the objects
+//! that meet them, in memory and for real.
+#![tactic(auto)]
+
+mod blame;
+mod bytes;
+mod count;
+mod decimal;
+mod error;
+mod file_input;
+mod input;
+mod lines;
+mod links;
+mod list;
+mod mem_input;
+mod mem_sink;
+mod sink;
+mod standard;
+mod store;
+
+pub use blame::Blame;
+pub use bytes::Bytes;
+pub use decimal::write_dec;
+pub use error::{Failed, Memory};
+pub use file_input::FileInput;
+pub use input::Input;
+pub use lines::Lines;
+pub use links::{Got, LinkEvent, Links};
+pub use list::List;
+pub use mem_input::MemInput;
+pub use mem_sink::MemSink;
+pub use sink::Sink;
+pub use standard::{ErrSink, OutSink, StreamSink};
+pub use store::Store;

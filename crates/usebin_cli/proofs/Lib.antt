@@ -1,0 +1,4 @@
+pub mod BodyLemmas
+pub mod ReadingLemmas
+pub mod WordsLemmas
+pub mod WritingLemmas

@@ -1,0 +1,105 @@
+// The top call: all that the program does.
+ghost use Rattle.std.specs.Prelude.{◌≡◌, ◌≢◌, ◌≤◌, ◌<◌, ◌↔◌, ◌⊎◌, ℕ, List, map, string_bytes};
+ghost use Rattle.ub_base.specs.Causes.{Rose};
+ghost use Rattle.usebin_cli.specs.CommandLine.{words_of, IsRefused};
+ghost use Rattle.usebin_cli.specs.Body.{most_bytes};
+ghost use Rattle.usebin_cli.specs.Reading.{reading, Exceeds};
+ghost use Rattle.usebin_cli.specs.Run.{Wrote, InputFailed, IsErrorText};
+ghost use Rattle.usebin_cli.specs.Writing.{written, Got, IsUntouched, WroteFront, WroteWhole};
+
+use crate::encode::{EncodeEnd, encode};
+use crate::words::{Command, read_words};
+use crate::writing::{say, say_numbered};
+use std::alloc::Global;
+use ub_base::{Input, Links, Sink, Store};
+
+/// Does what the words ask for, and answers the status.
+///
+/// `words` are those behind the program's name. `moment` is the time in seconds of Unix time, of which no command makes
+/// use yet, and neither does any of `store` and `links`.
+///
+/// | Status | Comes |
+/// |---|---|
+/// | 0 | the text was written whole |
+/// | 2 | exactly where the words are refused |
+/// | 3 | only where the count of faults of `input` rose |
+/// | 4 | only where the count of faults of `out` rose |
+/// | 6 | exactly where a read gave no byte below the file's length, or the file is too long |
+/// | 7 | want of memory, at any moment after the words are read |
+#[allow(clippy::too_many_arguments)]
+pub fn usebin<I: Input, T: Store, L: Links, O: Sink, E: Sink>(
+    alloc: Global,
+    words: &[String],
+    input: &mut I,
+    store: &mut T,
+    links: &mut L,
+    out: &mut O,
+    err: &mut E,
+    moment: u64,
+) -> u8
+    requires { moment ≤ 999999999999 }
+
+    // 0: `out` has got the text that the words ask for, and nothing else.
+    ensures done { result ≡ 0 → Wrote WroteWhole (words_of (map string_bytes words.now)) (I.files input.old)
+        (reading I.faults I.shorts I.short_place I.current I.blame input.old input.new) (written O.faults O.told out.old out.new) }
+
+    // 2: exactly where the words are refused, also where there is no memory.
+    ensures refused { (result ≡ 2) ↔ IsRefused (words_of (map string_bytes words.now)) }
+
+    // 3: only where a call on the input failed. Where one did, the status is 3 or want of memory.
+    ensures input_fault { result ≡ 3 → InputFailed (words_of (map string_bytes words.now)) (reading I.faults I.shorts I.short_place I.current I.blame input.old input.new) }
+    ensures input_count { I.faults input.old < I.faults input.new → (result ≡ 3) ⊎ (result ≡ 7) }
+
+    // 4: only where a write failed, and `out` has got a front of the text. Where one did, the status is 4 or want of memory.
+    ensures output_fault { result ≡ 4 → Wrote WroteFront (words_of (map string_bytes words.now)) (I.files input.old)
+        (reading I.faults I.shorts I.short_place I.current I.blame input.old input.new) (written O.faults O.told out.old out.new) }
+    ensures output_count { O.faults out.old < O.faults out.new → (result ≡ 4) ⊎ (result ≡ 7) }
+
+    // 6: exactly where a read gave no byte below the file's length, or the file is too long. Refused words open no file, so
+    // that the input may still have a long one from before.
+    ensures input_refused { result ≡ 6 → Rose (I.shorts input.old) (I.shorts input.new) ⊎ Exceeds most_bytes (I.current input.new) }
+    ensures short { I.shorts input.old < I.shorts input.new → (result ≡ 6) ⊎ (result ≡ 7) }
+    ensures too_long { Exceeds most_bytes (I.current input.new) → (result ≡ 6) ⊎ (result ≡ 2) }
+
+    // No other status is answered, and but for 0 and 4 nothing is written to `out`.
+    ensures statuses { (result ≡ 0) ⊎ ((result ≡ 2) ⊎ ((result ≡ 3) ⊎ ((result ≡ 4) ⊎ ((result ≡ 6) ⊎ (result ≡ 7))))) }
+    ensures untouched { result ≢ 0 → result ≢ 4 → IsUntouched (written O.faults O.told out.old out.new) }
+
+    // The other objects are as they were.
+    ensures store { store.new ≡ store.old }
+    ensures links { links.new ≡ links.old }
+
+    // `err` has got the line of the status, or a front of it where a write to `err` failed, which changes no status.
+    ensures error_text { (text : List ℕ) × IsErrorText (words_of (map string_bytes words.now)) (reading I.faults I.shorts I.short_place I.current I.blame input.old input.new) result text
+        × Got text (written E.faults E.told err.old err.new) }
+{
+    match read_words(words) {
+        Err(number) => {
+            say_numbered(err, b"usebin: words ", number);
+            2
+        }
+        Ok(Command::Encode(asked)) => match encode(alloc, asked.path, asked.name, input, out) {
+            EncodeEnd::Done => 0,
+            EncodeEnd::InputFault => {
+                say(err, b"usebin: input fault\n");
+                3
+            }
+            EncodeEnd::OutputFault => {
+                say(err, b"usebin: output fault\n");
+                4
+            }
+            EncodeEnd::Short(place) => {
+                say_numbered(err, b"usebin: short ", place);
+                6
+            }
+            EncodeEnd::FileLimit => {
+                say(err, b"usebin: limit file 16777216\n");
+                6
+            }
+            EncodeEnd::Memory => {
+                say(err, b"usebin: no memory\n");
+                7
+            }
+        },
+    }
+}

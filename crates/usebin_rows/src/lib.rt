@@ -1,0 +1,13 @@
+//! The worked cases of usebin: tests of what no clause says, over all crates, in a crate of their own.
+#![tactic(auto)]
+
+#[cfg(test)]
+mod encode;
+#[cfg(test)]
+mod fixtures;
+#[cfg(test)]
+mod lists;
+#[cfg(test)]
+mod spellings;
+#[cfg(test)]
+mod system;

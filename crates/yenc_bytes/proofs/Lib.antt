@@ -1,0 +1,4 @@
+pub mod LineText
+pub mod OneData
+pub mod DataLines
+pub mod Rows

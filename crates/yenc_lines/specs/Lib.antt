@@ -1,0 +1,3 @@
+pub use Rattle.crc_field.specs.Hex
+pub mod KeywordText
+pub mod Name

@@ -1,0 +1,78 @@
+// The name in a header line.
+ghost use Rattle.std.specs.Prelude.{◌≡◌, ◌≤◌, ◌↔◌, length, take, IsTrue, IsSome, IfSome};
+ghost use Rattle.yenc_lines.specs.Name.{IsName, has_no_line_end, is_line_end, is_trimmed};
+
+use std::marker::Model;
+
+// The greatest length in bytes.
+const MOST: usize = 255;
+
+/// The name of a file as a header line carries it (yEnc draft 1.3, "Headers and Trailers"): 1 to 255 bytes, no NUL, CR
+/// or LF, and no space at either end. Contracts see the list of bytes.
+#[derive(Clone, Debug, Drop)]
+pub struct Name {
+    bytes: [u8; MOST],
+    len: usize,
+}
+
+impl Model for Name {
+    ghost use Rattle.std.specs.Prelude.{ℕ, List, ◌≤◌, take};
+    ghost use Rattle.yenc_lines.specs.Name.{IsName};
+
+    ghost Value = { List ℕ };
+
+    ghost view = { λ name. take name.len name.bytes };
+
+    ghost invariant = { λ name. (name.len ≤ 255) × IsName (take name.len name.bytes) };
+}
+
+impl Name {
+    /// These bytes as a name, or `None` where they break the rule.
+    pub fn new(bytes: &[u8]) -> Option<Name>
+        ensures rule { IsSome result ↔ IsName bytes.now }
+        ensures same { IfSome result (λ name. name ≡ bytes.now) }
+    {
+        if !is_name(bytes) {
+            return None;
+        }
+        let mut own = [0; MOST];
+        own[..bytes.len()].copy_from_slice(bytes);
+        Some(Name {
+            bytes: own,
+            len: bytes.len(),
+        })
+    }
+
+    /// All bytes, in order.
+    pub fn as_slice(&self) -> &[u8]
+        ensures bytes { result.now ≡ self.now }
+        ensures rule { IsName self.now }
+    {
+        &self.bytes[..self.len]
+    }
+}
+
+fn is_name(bytes: &[u8]) -> bool
+    ensures { IsTrue result ↔ IsName bytes.now }
+{
+    !bytes.is_empty() && bytes.len() <= MOST && has_no_line_end(bytes) && is_trimmed(bytes)
+}
+
+fn has_no_line_end(bytes: &[u8]) -> bool
+    ensures { result ≡ has_no_line_end bytes.now }
+{
+    bytes.iter().all(|byte| !is_line_end(*byte))
+}
+
+fn is_line_end(byte: u8) -> bool
+    ensures { result ≡ is_line_end byte }
+{
+    matches!(byte, 0 | b'\n' | b'\r')
+}
+
+fn is_trimmed(bytes: &[u8]) -> bool
+    requires { 1 ≤ length bytes.now }
+    ensures { result ≡ is_trimmed bytes.now }
+{
+    bytes[0] != b' ' && bytes[bytes.len() - 1] != b' '
+}

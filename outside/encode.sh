@@ -1,0 +1,76 @@
+#!/bin/sh
+# The built program on worked cases, its statuses and their lines, and what it writes read back by uudeview, another
+# program's decoder.
+set -u
+program=$PWD/crates/usebin/out/usebin
+folder=$(mktemp -d) || exit 1
+trap 'rm -rf "$folder"' EXIT
+cd "$folder" || exit 1
+status=0
+
+complain() {
+    echo "outside/encode: $1"
+    status=1
+}
+
+# expect STATUS LINE WORD ..: the status, and the first line on standard error
+expect() {
+    wanted=$1
+    line=$2
+    shift 2
+    "$program" "$@" >out 2>err
+    got=$?
+    [ "$got" -eq "$wanted" ] || complain "status $got in place of $wanted: $*"
+    [ "$(head -n 1 err)" = "$line" ] || complain "the line isn't '$line': $*"
+}
+
+# text NAME CONTENT LINE ..: the text of a file, each line ended by CR LF (CONTENT and the lines by printf's escapes)
+text() {
+    name=$1
+    printf "$2" >"$name"
+    shift 2
+    for line in "$@"; do printf "$line\r\n"; done >wanted
+    expect 0 '' encode --input "$name"
+    cmp -s out wanted || complain "another text of $name"
+}
+
+[ -x "$program" ] || { echo "outside/encode: skipped, the program isn't built"; exit 0; }
+
+text e '' '=ybegin line=128 size=0 name=e' '=yend size=0 crc32=00000000'
+text d '123456789' '=ybegin line=128 size=9 name=d' '[\\]^_`abc' '=yend size=9 crc32=cbf43926'
+text four '\326\340\343\023' '=ybegin line=128 size=4 name=four' '=@=J=M=}' '=yend size=4 crc32=7a740808'
+text dot '\004' '=ybegin line=128 size=1 name=dot' '.' '=yend size=1 crc32=d56f2b94'
+text space '\366' '=ybegin line=128 size=1 name=space' '=`' '=yend size=1 crc32=86dcb8a4'
+
+expect 0 '' --help
+expect 0 '' encode --help
+expect 0 '' --version
+expect 2 'usebin: words 1'
+expect 2 'usebin: words 3' encode --input
+expect 2 'usebin: words 4' encode --input d --input d
+expect 2 'usebin: words 1' none "$(printf '\377')"
+expect 2 'usebin: words 3' encode --input "$(printf '\377')"
+expect 3 'usebin: input fault' encode --input none
+expect 3 'usebin: input fault' encode --input .
+mkfifo pipe && expect 3 'usebin: input fault' encode --input pipe
+[ -r /proc/version ] && expect 3 'usebin: input fault' encode --input /proc/version
+head -c 16777217 /dev/zero >long
+expect 6 'usebin: limit file 16777216' encode --input long
+"$program" encode --input d >/dev/full 2>err
+[ $? -eq 4 ] && [ "$(head -n 1 err)" = 'usebin: output fault' ] || complain "a full device is no output fault"
+
+head -c 3000000 /dev/urandom >'my file.bin'
+head -c 1000000 /dev/zero >zeros
+if command -v uudeview >/dev/null 2>&1; then
+    mkdir back
+    for name in 'my file.bin' zeros; do
+        expect 0 '' encode --input "$name"
+        mv out text
+        uudeview -i -q -p back/ text >/dev/null 2>&1
+        cmp -s "$name" "back/$name" || complain "uudeview read other bytes of $name"
+    done
+    echo "outside/encode: read back by uudeview"
+else
+    echo "outside/encode: uudeview isn't installed, reading back is skipped"
+fi
+exit $status
