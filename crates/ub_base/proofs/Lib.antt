@@ -1,3 +1,4 @@
 pub mod DecimalDigits
 pub mod FlatLines
 pub mod NamedFiles
+pub mod NumberDigits

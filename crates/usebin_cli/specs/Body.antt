@@ -1,10 +1,9 @@
 -- The text that `encode` writes: the yEnc body of a file in one part (yEnc draft 1.3, "Headers and Trailers" and "Encoding
 -- Technique").
-use Rattle.std.specs.Prelude.{◌≡◌, ℕ, List, [], ◌∷◌, ◌++◌, length, None, Some}
+use Rattle.std.specs.Prelude.{ℕ, List, [], ◌∷◌, ◌++◌, length}
 use Rattle.std.specs.List.{flat_map}
-use Rattle.crc_field.specs.Crc.{crc32}
-use Rattle.yenc_bytes.specs.WriterLines.{IsCanonicalData}
-use Rattle.yenc_lines.specs.KeywordText.{begin_text, end_text}
+use Rattle.yenc_body.specs.Canonical.{IsCanonicalBody}
+use Rattle.yenc_body.specs.declared.spec.BodySpec.{BodySpec}
 
 -- how many bytes a file may have
 abbrev pub most_bytes : ℕ
@@ -14,19 +13,13 @@ most_bytes = 16777216
 abbrev pub line_length : ℕ
 line_length = 128
 
--- the header line of a file in one part
-unfoldable pub header : List ℕ → ℕ → List ℕ
-header name size = begin_text (record { part = None; total = None; line = Some line_length; size = size; name = name })
+-- a whole file as the one part of its body
+abbrev pub whole_file : List ℕ → List ℕ → BodySpec
+whole_file name content = record { name = name; part = 1; total = 1; first = 1; size = length content; line = line_length }
 
--- the trailer line of a file in one part
-unfoldable pub trailer : List ℕ → List ℕ
-trailer content = end_text (record { size = length content; part = None; pcrc32 = None; crc32 = Some (crc32 content) })
-
--- the lines of the canonical body of a file in one part: the header, the data lines and the trailer
+-- the lines of the canonical body of a file in one part
 abbrev pub IsSingleBody : List ℕ → List ℕ → List (List ℕ) → Type 0
-IsSingleBody name content lines =
-    (data_lines : List (List ℕ)) × IsCanonicalData line_length content data_lines
-    × (lines ≡ header name (length content) ∷ data_lines ++ trailer content ∷ [])
+IsSingleBody name content lines = IsCanonicalBody (whole_file name content) content lines
 
 -- a line with its end, CR LF
 abbrev pub ended : List ℕ → List ℕ

@@ -2,6 +2,10 @@
 #![tactic(auto)]
 
 #[cfg(test)]
+mod bodies;
+#[cfg(test)]
+mod decoding;
+#[cfg(test)]
 mod encode;
 #[cfg(test)]
 mod fixtures;

@@ -1,7 +1,7 @@
--- The definitions of the keyword lines, computed on four lines that were written out by hand.
+-- The definitions of the keyword lines, computed on lines that were written out by hand.
 use Rattle.std.proofs.Common.{◌≡◌, Some, None, codes, refl}
 use Rattle.std.specs.Fmt.{digits}
-use Rattle.yenc_lines.specs.KeywordText.{begin_text, end_text}
+use Rattle.yenc_lines.specs.KeywordText.{begin_text, end_text, part_text}
 use Rattle.crc_field.specs.Hex.{hex_digits}
 
 -- the header line of a file in one part
@@ -23,3 +23,8 @@ end_whole = refl
 pub end_part : end_text (record { size = 9; part = Some 2; pcrc32 = Some 0xcbf43926; crc32 = None }) ≡ codes "=yend size=9 part=2 pcrc32=cbf43926"
 unfolding end_text digits hex_digits
 end_part = refl
+
+-- the part line of the second of three parts
+pub part_line : part_text (record { begin = 10; end = 18 }) ≡ codes "=ypart begin=10 end=18"
+unfolding part_text digits
+part_line = refl

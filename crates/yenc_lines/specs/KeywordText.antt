@@ -4,6 +4,7 @@ use Rattle.std.specs.Prelude.{ℕ, List, [], ◌++◌, Option, Some, None, codes
 use Rattle.crc_field.specs.Hex.{hex_digits}
 use Rattle.yenc_lines.specs.declared.keyword.Begin.{Begin}
 use Rattle.yenc_lines.specs.declared.keyword.EndLine.{EndLine}
+use Rattle.yenc_lines.specs.declared.keyword.PartLine.{PartLine}
 
 -- an item, where it is there: a space, the key, `=` and the value's text
 abbrev pub item : List ℕ → (ℕ → List ℕ) → Option ℕ → List ℕ
@@ -14,6 +15,10 @@ item key text (Some n) = codes " " ++ key ++ codes "=" ++ text n
 unfoldable pub begin_text : Begin → List ℕ
 begin_text b = codes "=ybegin" ++ item (codes "part") decimal b.part ++ item (codes "total") decimal b.total ++ item (codes "line") decimal b.line
     ++ item (codes "size") decimal (Some b.size) ++ codes " name=" ++ b.name
+
+-- the part line of one part of several ("Multi-part Encoded Binaries")
+unfoldable pub part_text : PartLine → List ℕ
+part_text p = codes "=ypart" ++ item (codes "begin") decimal (Some p.begin) ++ item (codes "end") decimal (Some p.end)
 
 -- the trailer line of a file, or of one part of several (also "Verifying Integrity")
 unfoldable pub end_text : EndLine → List ℕ

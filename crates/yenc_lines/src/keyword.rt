@@ -16,6 +16,16 @@ pub struct Begin {
     pub name: Name,
 }
 
+/// What a part line, `=ypart`, says (yEnc draft 1.3, "Multi-part Encoded Binaries"): the offsets of the part's first and
+/// last byte in the file, from 1.
+#[derive(Clone, Copy, Debug, PartialEq, Eq)]
+pub struct PartLine {
+    /// The offset of the part's first byte.
+    pub begin: u64,
+    /// The offset of the part's last byte, or the one before `begin` where the part has none.
+    pub end: u64,
+}
+
 /// What a trailer line, `=yend`, says (yEnc draft 1.3, "Headers and Trailers", "Verifying Integrity" and "Multi-part
 /// Encoded Binaries").
 #[derive(Clone, Copy, Debug, PartialEq, Eq)]

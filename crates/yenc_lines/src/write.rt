@@ -1,9 +1,9 @@
 // Keyword lines as text.
 ghost use Rattle.std.specs.Prelude.{◌≡◌, ◌≤◌, ◌^◌, take, IfSome};
-ghost use Rattle.yenc_lines.specs.KeywordText.{begin_text, end_text};
+ghost use Rattle.yenc_lines.specs.KeywordText.{begin_text, end_text, part_text};
 
 use crate::put::{put, put_crc, put_decimal, put_number};
-use crate::{Begin, EndLine};
+use crate::{Begin, EndLine, PartLine};
 
 /// Writes a header line, without a line end, to the front of a buffer, and answers its length in bytes (yEnc draft 1.3,
 /// "Headers and Trailers"). A part is numbered from 1, and a file has at most 2^40 bytes.
@@ -21,6 +21,21 @@ pub fn write_begin(v: &Begin, out: &mut [u8; 1024]) -> usize
     let at = put_decimal(out, at, b"size", v.size);
     let at = put(out, at, b" name=");
     put(out, at, v.name.as_slice())
+}
+
+/// Writes a part line, without a line end, to the front of a buffer, and answers its length in bytes (yEnc draft 1.3,
+/// "Multi-part Encoded Binaries"). Offsets count from 1 and are at most 2^40.
+#[tactic(auto, unfolding(crate::specs::KeywordText::part_text))]
+pub fn write_part(v: &PartLine, out: &mut [u8; 1024]) -> usize
+    requires begin { 1 ≤ v.now.begin }
+    requires begin_most { v.now.begin ≤ 2 ^ 40 }
+    requires end { v.now.end ≤ 2 ^ 40 }
+    ensures text { take result out.new ≡ part_text v.now }
+    ensures room { result ≤ 1024 }
+{
+    let at = put(out, 0, b"=ypart");
+    let at = put_decimal(out, at, b"begin", v.begin);
+    put_decimal(out, at, b"end", v.end)
 }
 
 /// Writes a trailer line, without a line end, to the front of a buffer, and answers its length in bytes (yEnc draft 1.3,
