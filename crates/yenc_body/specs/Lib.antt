@@ -1,5 +1,13 @@
 pub use Rattle.crc_field.specs.Crc
+pub use Rattle.yenc_bytes.specs.DataLine
+pub use Rattle.yenc_bytes.specs.DataLineReading
 pub use Rattle.yenc_bytes.specs.WriterLines
 pub use Rattle.yenc_lines.specs.KeywordText
+pub use Rattle.yenc_lines.specs.Keywords
+pub use Rattle.yenc_lines.specs.Name
+pub mod Body
+pub mod BodyReading
 pub mod Canonical
+pub mod FirstFault
 pub mod Text
+pub mod WrittenBody

@@ -3,8 +3,8 @@
 use Rattle.std.specs.Prelude.{ℕ, List, [], ◌++◌, Option, Some, None, codes, decimal}
 use Rattle.crc_field.specs.Hex.{hex_digits}
 use Rattle.yenc_lines.specs.declared.keyword.Begin.{Begin}
-use Rattle.yenc_lines.specs.declared.keyword.EndLine.{EndLine}
 use Rattle.yenc_lines.specs.declared.keyword.PartLine.{PartLine}
+use Rattle.yenc_lines.specs.declared.keyword.EndLine.{EndLine}
 
 -- an item, where it is there: a space, the key, `=` and the value's text
 abbrev pub item : List ℕ → (ℕ → List ℕ) → Option ℕ → List ℕ
@@ -16,7 +16,7 @@ unfoldable pub begin_text : Begin → List ℕ
 begin_text b = codes "=ybegin" ++ item (codes "part") decimal b.part ++ item (codes "total") decimal b.total ++ item (codes "line") decimal b.line
     ++ item (codes "size") decimal (Some b.size) ++ codes " name=" ++ b.name
 
--- the part line of one part of several ("Multi-part Encoded Binaries")
+-- the line of one part of several, behind its header line
 unfoldable pub part_text : PartLine → List ℕ
 part_text p = codes "=ypart" ++ item (codes "begin") decimal (Some p.begin) ++ item (codes "end") decimal (Some p.end)
 

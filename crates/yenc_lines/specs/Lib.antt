@@ -1,3 +1,5 @@
 pub use Rattle.crc_field.specs.Hex
+pub mod Gathered
 pub mod KeywordText
+pub mod Keywords
 pub mod Name

@@ -16,13 +16,12 @@ pub struct Begin {
     pub name: Name,
 }
 
-/// What a part line, `=ypart`, says (yEnc draft 1.3, "Multi-part Encoded Binaries"): the offsets of the part's first and
-/// last byte in the file, from 1.
+/// What the part line, `=ypart`, of one part of several says (yEnc draft 1.3, "Multi-part Encoded Binaries").
 #[derive(Clone, Copy, Debug, PartialEq, Eq)]
 pub struct PartLine {
-    /// The offset of the part's first byte.
+    /// The place of the part's first byte in the file, from 1.
     pub begin: u64,
-    /// The offset of the part's last byte, or the one before `begin` where the part has none.
+    /// The place of the part's last byte in the file, from 1.
     pub end: u64,
 }
 

@@ -24,11 +24,11 @@ pub fn write_begin(v: &Begin, out: &mut [u8; 1024]) -> usize
 }
 
 /// Writes a part line, without a line end, to the front of a buffer, and answers its length in bytes (yEnc draft 1.3,
-/// "Multi-part Encoded Binaries"). Offsets count from 1 and are at most 2^40.
+/// "Multi-part Encoded Binaries"). Places count from 1, up to 2^40.
 #[tactic(auto, unfolding(crate::specs::KeywordText::part_text))]
 pub fn write_part(v: &PartLine, out: &mut [u8; 1024]) -> usize
-    requires begin { 1 ≤ v.now.begin }
-    requires begin_most { v.now.begin ≤ 2 ^ 40 }
+    requires first { 1 ≤ v.now.begin }
+    requires begin { v.now.begin ≤ 2 ^ 40 }
     requires end { v.now.end ≤ 2 ^ 40 }
     ensures text { take result out.new ≡ part_text v.now }
     ensures room { result ≤ 1024 }
