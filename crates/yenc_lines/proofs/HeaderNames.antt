@@ -7,7 +7,7 @@ use Rattle.std.proofs.lemmas.List.{take_all}
 use Rattle.std.proofs.lemmas.List.Sums.{prefix_len-drop_no, suffix_len_is}
 use Rattle.yenc_lines.specs.Keywords.{is_space, trimmed}
 use Rattle.yenc_lines.specs.Name.{IsName, has_no_line_end}
-use Rattle.yenc_lines.proofs.WrittenReads.{IsHeaderName}
+use Rattle.yenc_lines.proofs.WrittenItems.{IsHeaderName}
 
 not_space : (x : ℕ) → not (x == 32) ≡ true → is_space x ≡ false
 not_space x h = grind (arith, nat_tests)

@@ -9,5 +9,7 @@ pub mod ReadLaws
 pub mod ReaderLaws
 mod Rows
 pub mod SmallNumbers
+pub mod SpacedItems
 pub mod TrimLaws
-pub mod WrittenReads
+pub mod WrittenItems
+pub mod WrittenLines

@@ -3,3 +3,4 @@ pub mod Gathered
 pub mod KeywordText
 pub mod Keywords
 pub mod Name
+pub mod WrittenLines

@@ -6,6 +6,7 @@ mod item;
 mod items;
 mod key;
 mod keyword;
+mod laws;
 mod name;
 mod put;
 mod read;
@@ -14,6 +15,7 @@ mod write;
 
 pub use key::{Key, KeyFault};
 pub use keyword::{Begin, EndLine, PartLine};
+pub use laws::written_lines_are_read;
 pub use name::Name;
 pub use read::{read_begin, read_end, read_part};
 pub use write::{write_begin, write_end, write_part};

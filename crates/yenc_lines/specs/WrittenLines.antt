@@ -1,0 +1,27 @@
+-- What is written as a keyword line is read again (yEnc draft 1.3, "Headers and Trailers" and "Multi-part Encoded Binaries").
+use Rattle.std.specs.Prelude.{◌≡◌, ℕ, ◌≤◌, ◌^◌, Option, Some, None, Ok}
+use Rattle.yenc_lines.specs.declared.keyword.Begin.{Begin}
+use Rattle.yenc_lines.specs.declared.keyword.PartLine.{PartLine}
+use Rattle.yenc_lines.specs.declared.keyword.EndLine.{EndLine}
+use Rattle.yenc_lines.specs.Name.{IsName}
+use Rattle.yenc_lines.specs.KeywordText.{begin_text, part_text, end_text}
+use Rattle.yenc_lines.specs.Keywords.{begin_of, part_of, end_of}
+
+-- a number from `low` to `high`, where there is one
+abbrev pub IsWithin : ℕ → ℕ → Option ℕ → Type 0
+IsWithin low high None = Unit {0}
+IsWithin low high (Some n) = (low ≤ n) × (n ≤ high)
+
+-- a header line
+abbrev pub HeaderIsRead : Type 0
+HeaderIsRead = (b : Begin) → IsWithin 1 4294967295 b.part → IsWithin 0 4294967295 b.total → IsWithin 0 4294967295 b.line →
+    b.size ≤ 2 ^ 40 → IsName b.name → begin_of (begin_text b) ≡ Ok b
+
+-- a part line
+abbrev pub PartLineIsRead : Type 0
+PartLineIsRead = (p : PartLine) → 1 ≤ p.begin → p.begin ≤ 2 ^ 40 → p.end ≤ 2 ^ 40 → part_of (part_text p) ≡ Ok p
+
+-- a trailer line
+abbrev pub TrailerIsRead : Type 0
+TrailerIsRead = (e : EndLine) → IsWithin 1 4294967295 e.part → IsWithin 0 4294967295 e.pcrc32 → IsWithin 0 4294967295 e.crc32 →
+    e.size ≤ 2 ^ 40 → end_of (end_text e) ≡ Ok e
