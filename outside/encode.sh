@@ -44,6 +44,7 @@ text space '\366' '=ybegin line=128 size=1 name=space' '=`' '=yend size=1 crc32=
 
 expect 0 '' --help
 expect 0 '' encode --help
+expect 0 '' decode --help
 expect 0 '' --version
 expect 2 'usebin: words 1'
 expect 2 'usebin: words 3' encode --input
@@ -54,8 +55,11 @@ expect 3 'usebin: input fault' encode --input none
 expect 3 'usebin: input fault' encode --input .
 mkfifo pipe && expect 3 'usebin: input fault' encode --input pipe
 [ -r /proc/version ] && expect 3 'usebin: input fault' encode --input /proc/version
-head -c 16777217 /dev/zero >long
-expect 6 'usebin: limit file 16777216' encode --input long
+truncate -s 1099511627777 long 2>/dev/null && expect 6 'usebin: limit file 1099511627776' encode --input long
+head -c 262145 /dev/zero >many
+expect 6 'usebin: limit segments 262144' encode --input many --part-size 1
+expect 6 'usebin: limit part 1' encode --input many --part 2
+expect 2 'usebin: words 5' encode --input many/ --line "$(printf '\377')" --name many
 "$program" encode --input d >/dev/full 2>err
 [ $? -eq 4 ] && [ "$(head -n 1 err)" = 'usebin: output fault' ] || complain "a full device is no output fault"
 

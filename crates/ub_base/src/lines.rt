@@ -1,5 +1,5 @@
 // Lines of bytes, kept flat: an article has over a hundred thousand of them, and none is an allocation of its own.
-ghost use Rattle.std.specs.Prelude.{◌≡◌, ◌≤◌, ◌<◌, ◌+◌, [], ◌∷◌, ◌++◌, length, take, slice_get, slice_index, Some, OnOk, OnErr, IsTrue, ◌↔◌};
+ghost use Rattle.std.specs.Prelude.{◌≡◌, ◌≤◌, ◌<◌, ◌+◌, ◌^◌, [], ◌∷◌, ◌++◌, length, take, slice_get, slice_index, Some, OnOk, OnErr, IsTrue, ◌↔◌};
 ghost use Rattle.ub_base.specs.Lines.{lines_from, AreStops};
 
 use crate::Memory;
@@ -37,7 +37,8 @@ impl Lines {
 
     /// How many lines there are.
     pub fn len(&self) -> usize
-        ensures { result ≡ length self.now }
+        ensures count { result ≡ length self.now }
+        ensures bound { result < 2 ^ 63 }
     {
         self.stops.len()
     }
@@ -81,6 +82,14 @@ impl Lines {
         ensures { self.new ≡ self.old }
     {
         self.stops.reserve(n)?;
+        Ok(())
+    }
+
+    /// Takes room for the bytes of more lines, `n` in all.
+    pub fn reserve_bytes(&mut self, n: usize) -> Result<(), Memory>
+        ensures { self.new ≡ self.old }
+    {
+        self.bytes.reserve(n)?;
         Ok(())
     }
 

@@ -33,16 +33,16 @@ fn say_no_memory(rt: &HostRuntime) -> u8 {
     7
 }
 
-// Names the first refused word where one is no text: an earlier one may be refused before it.
+// Names the first refused word where one is no text. All words are judged, since a name that is given later changes what a
+// path has to be; one that is no text stands as an empty word, which is no command, key or value.
 fn refuse_not_text(rt: &HostRuntime) -> u8 {
-    let Ok(before) = words_of_text(rt) else {
+    let Ok((words, not_text)) = words_of_text(rt) else {
         return say_no_memory(rt);
     };
-    let not_text = before.len() as u64 + 1;
-    match refused_word(&before) {
+    match refused_word(&words) {
         Some(number) if number < not_text => {
             let _ = rt.stderr().println(format_args!("usebin: words {number}"));
-            explain_words(rt, &before);
+            explain_words(rt, &words);
         }
         _ => {
             let _ = rt.stderr().println(format_args!(
@@ -53,23 +53,32 @@ fn refuse_not_text(rt: &HostRuntime) -> u8 {
     2
 }
 
-// The words before the first that is not UTF-8.
-fn words_of_text(rt: &HostRuntime) -> Result<Vec<String>, Memory> {
+// The words, one that is not UTF-8 standing as an empty one, and the number of the first such word.
+fn words_of_text(rt: &HostRuntime) -> Result<(Vec<String>, u64), Memory> {
     let mut words = Vec::new(rt.alloc());
+    let mut not_text = 0;
     let mut buffer = vec![in rt.alloc(); 0u8; LONGEST_WORD]?;
     for number in 1..usize::MAX {
-        let Some(text) = word_of_text(rt, number, &mut buffer) else {
+        let Some(word) = word_of_text(rt, number, &mut buffer) else {
             break;
         };
-        words.push(String::from_str(rt.alloc(), text)?)?;
+        if word.is_none() && not_text == 0 {
+            not_text = number as u64;
+        }
+        words.push(String::from_str(rt.alloc(), word.unwrap_or(""))?)?;
     }
-    Ok(words)
+    Ok((words, not_text))
 }
 
-fn word_of_text<'a>(rt: &HostRuntime, number: usize, buffer: &'a mut [u8]) -> Option<&'a str> {
+// The word of a number, if there is one, as text, if it is that.
+fn word_of_text<'a>(
+    rt: &HostRuntime,
+    number: usize,
+    buffer: &'a mut [u8],
+) -> Option<Option<&'a str>> {
     match rt.arg(number, buffer) {
-        Ok(len) => str::from_utf8(&buffer[..len]).ok(),
-        Err(FillError::TooLong) => None,
+        Ok(len) => Some(str::from_utf8(&buffer[..len]).ok()),
+        Err(FillError::TooLong) => Some(None),
         Err(FillError::NotPresent) => None,
     }
 }

@@ -1,12 +1,13 @@
 // The texts of help.
 
 const ABOUT: &str = "\
-usebin makes yEnc articles of files, for Usenet newsgroups.
+usebin makes yEnc articles of files, for Usenet newsgroups, and files of articles.
 
 usage: usebin COMMAND --KEY VALUE ..
 
 commands:
-  encode   writes the yEnc body of a file to standard output
+  encode   writes the yEnc body of a file, or of a part of it, to standard output
+  decode   writes the bytes of a saved body to standard output
 
 usebin COMMAND --help says what a command takes, usebin --version which version this is.
 
@@ -20,13 +21,29 @@ exit status:
 ";
 
 const ENCODE: &str = "\
-usage: usebin encode --input FILE
+usage: usebin encode --input FILE [--name NAME] [--line N] [--part-size N] [--part N]
 
-Writes the yEnc body of FILE to standard output: a header line, the data in lines of 128 characters, and a trailer line
-with the CRC-32 of the file. Each line ends with CR LF.
+Writes the yEnc body of a part of FILE to standard output: a header line, a part line where there are several parts, the
+data lines, and a trailer line with the CRC-32 of the part. Each line ends with CR LF. FILE is cut into parts from its
+start, the last one shorter, and only the asked part is read.
 
-  --input FILE   the file, of at most 16777216 bytes. The part of its path behind the last slash is the name in the
-                 header: 1 to 255 printable ASCII characters, with no space at either end.
+  --input FILE    the file, of at most 1099511627776 bytes and 262144 parts
+  --name NAME     the name in the header: 1 to 255 printable ASCII characters, with no space at either end. Without it
+                  the part of the path behind its last slash is the name.
+  --line N        how many characters a data line has before it is full, 64 to 997. Without it 128.
+  --part-size N   how many bytes a part has, 1 to 16777216. Without it 16777216.
+  --part N        which part, from 1. Without it 1.
+";
+
+const DECODE: &str = "\
+usage: usebin decode --input FILE
+
+Reads the yEnc body that was saved in FILE, and writes the bytes of the file, or of the part of it, to standard output.
+Their place in the file goes to standard error as a line `range A-B of S`: from the offset A to B, from 1, of S bytes.
+Where FILE is no body, or shows damage, nothing is written to standard output, and the first fault is told.
+
+  --input FILE   the saved body, of at most 67108864 bytes. What stands before its header line and behind its trailer
+                 line is passed over.
 ";
 
 const VERSION: &str = "usebin 0.1.0\n";
@@ -38,6 +55,9 @@ pub(crate) fn help_for(words: &[String]) -> Option<&'static str> {
         [first, ..] if first.as_str() == "--version" => Some(VERSION),
         [command, second, ..] if command.as_str() == "encode" && second.as_str() == "--help" => {
             Some(ENCODE)
+        }
+        [command, second, ..] if command.as_str() == "decode" && second.as_str() == "--help" => {
+            Some(DECODE)
         }
         _ => None,
     }

@@ -1,4 +1,9 @@
 pub mod BodyLemmas
+pub mod KeysLemmas
+pub mod PartLemmas
 pub mod ReadingLemmas
+mod Rows
+pub mod RunLemmas
+pub mod TopLemmas
 pub mod WordsLemmas
 pub mod WritingLemmas

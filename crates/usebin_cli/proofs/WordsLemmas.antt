@@ -1,108 +1,72 @@
--- One more pair of words.
-use Rattle.std.proofs.Common.{◌≡◌, ◌≤◌, ◌<◌, ℕ, zero, suc, ◌+◌, drop, get_or, map, Bool, true, false, List, [], ◌∷◌, ◌++◌, length, Option, Some, None, Err, IfSome, refl, sym, ◌∙◌, ap, arith}
-use Rattle.std.specs.Str.{bytes_eq}
-use Rattle.std.proofs.lemmas.Slice.Eq.{bytes_eq-Decides}
-use Rattle.std.specs.Prelude.{is_some, not, nat_le, if◌then◌else◌}
+-- What the words of a command ask for.
+use Rattle.std.proofs.Common.{◌≡◌, ◌≤◌, ℕ, ◌+◌, ◌-◌, Bool, true, false, List, [], ◌∷◌, length, drop, get_or, map, take, Option, Some, None, Result, Ok, Err, refl, sym, ◌∙◌, ap, arith}
+use Rattle.std.specs.Prelude.{is_some, not, nat_le, codes}
 use Rattle.std.specs.List.{list_all}
-use Rattle.std.proofs.lemmas.List.{drop_all, length-map}
+use Rattle.std.specs.Option.{option_and_then, option_map, unwrap_or}
+use Rattle.std.proofs.lemmas.List.{take_all}
 use Rattle.std.proofs.lemmas.Bool.{and_from, and_parts}
 use Rattle.std.proofs.lemmas.Bool.Decides.{nat_tests}
-use Rattle.std.specs.Option.{option_copied}
-use Rattle.std.specs.Borrow.{Bor}
-use lib.Chars.{codes}
-use Rattle.usebin_cli.specs.CommandLine.{encode_keys, file_name, is_header_name, is_printable, pairs_of, value_of}
+use Rattle.usebin_cli.specs.Asked.{paired}
+use Rattle.usebin_cli.specs.CommandLine.{Command, PartAsked, asks_or_lacks, command_of, encode_asked, encode_keys, encode_of, line_of, part_asked, part_of, part_size_of, words_of, words_of_pairs}
+use Rattle.usebin_cli.specs.CommandLine.Words.{Asks, Refused}
+use Rattle.usebin_cli.specs.CommandLine.Command.{Encode}
+use Rattle.usebin_cli.specs.Keys.{Key, file_name, is_header_name, is_printable, pairs_of, stands_as_key, value_of}
+use Rattle.usebin_cli.proofs.KeysLemmas.{stands_with_value, values_taken}
 use Rattle.yenc_lines.specs.Name.{IsName, has_no_line_end, is_line_end}
 
--- The words from an index on go on from some pairs, whose path, if they have one, is this.
-pub record SoFar (words : List (List ℕ)) (at : ℕ) (path : Option (List ℕ)) : Type 0 where
-  pub pairs : List (List ℕ × List ℕ)
-  pub goes_on : pairs_of encode_keys (at + 2) pairs (drop at words) ≡ pairs_of encode_keys 2 [] words
-  pub path_is : value_of (codes "--input") pairs ≡ path
-  pub inside : at ≤ length words
-  pub allowed : IfSome path (λ p. is_header_name (file_name p) ≡ true)
+-- ---- a command by its keys
 
-words_from : {X : Type 0} (f : X → List ℕ) (xs : List X) (i : ℕ) (x : X) → i < length xs → x ≡ get_or xs i x → drop i (map f xs) ≡ f x ∷ drop (i + 1) (map f xs)
-words_from f [] i x lt is = absurd (omega arith)
-words_from f (y ∷ xs) zero x lt is = ap (λ z. f z ∷ map f xs) (sym is)
-words_from f (y ∷ xs) (suc i) x lt is = words_from f xs i x (omega arith) is ∙ (let e : suc i + 1 ≡ suc (i + 1) = omega arith in rw e refl)
+refused : (keys : List Key) (asked : List (List ℕ × List ℕ) → Option Command) (words : List (List ℕ)) (number : ℕ) → pairs_of keys 2 [] words ≡ Err number → command_of keys asked words ≡ Refused number
+refused keys asked words number are = ap (words_of_pairs asked (length words + 2)) are
 
--- the words from an index on, the text of the first of them being given
-pub next_words : {X : Type 0} (f : X → List ℕ) (xs : List X) (i : ℕ) (x : X) (text : List ℕ) → i < length xs → x ≡ get_or xs i x → text ≡ f x → drop i (map f xs) ≡ text ∷ drop (i + 1) (map f xs)
-next_words f xs i x text lt is text_is = words_from f xs i x lt is ∙ ap (λ t. t ∷ drop (i + 1) (map f xs)) (sym text_is)
+lacking : (keys : List Key) (asked : List (List ℕ × List ℕ) → Option Command) (words : List (List ℕ)) → pairs_of keys 2 [] words ≡ Ok (paired words) → asked (paired words) ≡ None → command_of keys asked words ≡ Refused (length words + 2)
+lacking keys asked words are none = ap (words_of_pairs asked (length words + 2)) are ∙ ap (asks_or_lacks (length words + 2)) none
 
--- a key that isn't known, or that a pair has, is refused
-pub unknown_key : (number : ℕ) (pairs : List (List ℕ × List ℕ)) (key : List ℕ) (words : List (List ℕ)) → bytes_eq key (codes "--input") ≡ false → pairs_of encode_keys number pairs (key ∷ words) ≡ Err number
-unknown_key number pairs key [] is = rw is refl
-unknown_key number pairs key (value ∷ words) is = rw is refl
+asking : (keys : List Key) (asked : List (List ℕ × List ℕ) → Option Command) (words : List (List ℕ)) (command : Command) → pairs_of keys 2 [] words ≡ Ok (paired words) → asked (paired words) ≡ Some command → command_of keys asked words ≡ Asks command
+asking keys asked words command are is = ap (words_of_pairs asked (length words + 2)) are ∙ ap (asks_or_lacks (length words + 2)) is
 
-same_key : (key : List ℕ) → bytes_eq key (codes "--input") ≡ true → key ≡ codes "--input"
-same_key key is = (bytes_eq-Decides key (codes "--input")).0 is
+-- ---- encode
 
-pub repeated_key : (number : ℕ) (pairs : List (List ℕ × List ℕ)) (key : List ℕ) (words : List (List ℕ)) → bytes_eq key (codes "--input") ≡ true → is_some (value_of (codes "--input") pairs) ≡ true → pairs_of encode_keys number pairs (key ∷ words) ≡ Err number
-repeated_key number pairs key [] is has = rw (same_key key is, has) refl
-repeated_key number pairs key (value ∷ words) is has = rw (same_key key is, has) refl
+no_path : (pairs : List (List ℕ × List ℕ)) → None ≡ value_of (codes "--input") pairs → encode_asked pairs ≡ None
+no_path pairs none = ap (option_map (λ path. Encode (part_asked pairs path))) (sym none)
 
--- a value that is missing, or that isn't taken, is refused
-pub missing_value : (number : ℕ) (pairs : List (List ℕ × List ℕ)) (key : List ℕ) → bytes_eq key (codes "--input") ≡ true → is_some (value_of (codes "--input") pairs) ≡ false → pairs_of encode_keys number pairs (key ∷ []) ≡ Err (number + 1)
-missing_value number pairs key is has = rw (same_key key is, has) refl
+path_asks : (pairs : List (List ℕ × List ℕ)) (path : List ℕ) (asked : PartAsked) → Some path ≡ value_of (codes "--input") pairs → asked ≡ part_asked pairs path → encode_asked pairs ≡ Some (Encode asked)
+path_asks pairs path asked there is = ap (option_map (λ p. Encode (part_asked pairs p))) (sym there) ∙ ap (λ (a : PartAsked). Some (Encode a)) (sym is)
 
-pub bad_value : (number : ℕ) (pairs : List (List ℕ × List ℕ)) (key value : List ℕ) (words : List (List ℕ)) → bytes_eq key (codes "--input") ≡ true → is_some (value_of (codes "--input") pairs) ≡ false → is_header_name (file_name value) ≡ false → pairs_of encode_keys number pairs (key ∷ value ∷ words) ≡ Err (number + 1)
-bad_value number pairs key value words is has bad = rw (same_key key is, has, bad) refl
+-- pairs that are read by the keys of a table are read by those of `encode`
+encode_pairs : (words : List (List ℕ)) (keys : List Key) (named : Bool) (result : Result (List (List ℕ × List ℕ)) ℕ) → keys ≡ encode_keys named → named ≡ stands_as_key (codes "--name") words → pairs_of keys 2 [] words ≡ result
+    → pairs_of (encode_keys (stands_as_key (codes "--name") words)) 2 [] words ≡ result
+encode_pairs words keys named result keys_are named_is are = ap (λ k. pairs_of k 2 [] words) (sym (keys_are ∙ ap encode_keys named_is)) ∙ are
 
-pub good_value : (number : ℕ) (pairs : List (List ℕ × List ℕ)) (key value : List ℕ) (words : List (List ℕ)) → bytes_eq key (codes "--input") ≡ true → is_some (value_of (codes "--input") pairs) ≡ false → is_header_name (file_name value) ≡ true → pairs_of encode_keys number pairs (key ∷ value ∷ words) ≡ pairs_of encode_keys (number + 2) (pairs ++ (codes "--input", value) ∷ []) words
-good_value number pairs key value words is has good = rw (same_key key is, has, good) refl
+pub encode_refused : (words : List (List ℕ)) (keys : List Key) (named : Bool) (number : ℕ) → keys ≡ encode_keys named → named ≡ stands_as_key (codes "--name") words → pairs_of keys 2 [] words ≡ Err number → encode_of words ≡ Refused number
+encode_refused words keys named number keys_are named_is are = refused (encode_keys (stands_as_key (codes "--name") words)) encode_asked words number (encode_pairs words keys named (Err number) keys_are named_is are)
 
--- ---- the same of the words from an index on
+pub encode_lacks : (words : List (List ℕ)) (keys : List Key) (named : Bool) → keys ≡ encode_keys named → named ≡ stands_as_key (codes "--name") words → pairs_of keys 2 [] words ≡ Ok (paired words)
+    → None ≡ value_of (codes "--input") (paired words) → encode_of words ≡ Refused (length words + 2)
+encode_lacks words keys named keys_are named_is are none = lacking (encode_keys (stands_as_key (codes "--name") words)) encode_asked words (encode_pairs words keys named (Ok (paired words)) keys_are named_is are) (no_path (paired words) none)
 
-not_same : (b : Bool) → true ≡ not b → b ≡ false
-not_same true is = cc
-not_same false is = refl
+pub encode_asks : (words : List (List ℕ)) (keys : List Key) (named : Bool) (path : List ℕ) (asked : PartAsked) → keys ≡ encode_keys named → named ≡ stands_as_key (codes "--name") words → pairs_of keys 2 [] words ≡ Ok (paired words)
+    → Some path ≡ value_of (codes "--input") (paired words) → asked ≡ part_asked (paired words) path → encode_of words ≡ Asks (Encode asked)
+encode_asks words keys named path asked keys_are named_is are there is =
+    asking (encode_keys (stands_as_key (codes "--name") words)) encode_asked words (Encode asked) (encode_pairs words keys named (Ok (paired words)) keys_are named_is are) (path_asks (paired words) path asked there is)
 
-not_other : (b : Bool) → false ≡ not b → b ≡ true
-not_other true is = refl
-not_other false is = cc
+pub asked_is : (path name : List ℕ) (line part_size part : ℕ) (pairs : List (List ℕ × List ℕ)) → name ≡ unwrap_or (value_of (codes "--name") pairs) (file_name path) → line ≡ unwrap_or (option_and_then line_of (value_of (codes "--line") pairs)) 128
+    → part_size ≡ unwrap_or (option_and_then part_size_of (value_of (codes "--part-size") pairs)) 16777216 → part ≡ unwrap_or (option_and_then part_of (value_of (codes "--part") pairs)) 1
+    → record { path = path; name = name; line = line; part_size = part_size; part = part } ≡ part_asked pairs path
+asked_is path name line part_size part pairs n l s p = rw (n, l, s, p) refl
 
-pub no_more : {X : Type 0} (f : X → List ℕ) (xs : List X) (i : ℕ) → i + 1 ≡ length xs → drop (i + 1) (map f xs) ≡ []
-no_more f xs i is = drop_all (i + 1) (map f xs) (omega (arith, length-map xs f, is))
+-- the name in the header is one that it can carry: the one that is given, or else that of the file
+name_is_header : (words : List (List ℕ)) (named : Bool) (path : List ℕ) (name : Option (List ℕ)) → pairs_of (encode_keys named) 2 [] words ≡ Ok (paired words) → value_of (codes "--input") (paired words) ≡ Some path
+    → value_of (codes "--name") (paired words) ≡ name → named ≡ is_some name → is_header_name (unwrap_or name (file_name path)) ≡ true
+name_is_header words named path (Some name) are there name_is named_is = values_taken (encode_keys named) 2 [] (paired words) words are (codes "--name") name name_is
+name_is_header words true path None are there name_is named_is = cc
+name_is_header words false path None are there name_is named_is = values_taken (encode_keys false) 2 [] (paired words) words are (codes "--input") path there
 
-pub refused_unknown : (number : ℕ) (pairs : List (List ℕ × List ℕ)) (words : List (List ℕ)) (key : List ℕ) (more : List (List ℕ)) → words ≡ key ∷ more → true ≡ not (bytes_eq key (codes "--input")) → pairs_of encode_keys number pairs words ≡ Err number
-refused_unknown number pairs words key more are other = ap (pairs_of encode_keys number pairs) are ∙ unknown_key number pairs key more (not_same _ other)
-
-pub refused_repeated : (number : ℕ) (pairs : List (List ℕ × List ℕ)) (words : List (List ℕ)) (key : List ℕ) (more : List (List ℕ)) → words ≡ key ∷ more → false ≡ not (bytes_eq key (codes "--input")) → is_some (value_of (codes "--input") pairs) ≡ true → pairs_of encode_keys number pairs words ≡ Err number
-refused_repeated number pairs words key more are same has = ap (pairs_of encode_keys number pairs) are ∙ repeated_key number pairs key more (not_other _ same) has
-
-pub refused_missing : (number : ℕ) (pairs : List (List ℕ × List ℕ)) (words : List (List ℕ)) (key : List ℕ) (more : List (List ℕ)) → words ≡ key ∷ more → more ≡ [] → false ≡ not (bytes_eq key (codes "--input")) → is_some (value_of (codes "--input") pairs) ≡ false → pairs_of encode_keys number pairs words ≡ Err (number + 1)
-refused_missing number pairs words key more are none same has =
-    ap (pairs_of encode_keys number pairs) (are ∙ ap (λ l. key ∷ l) none) ∙ missing_value number pairs key (not_other _ same) has
-
-pub refused_value : (number : ℕ) (pairs : List (List ℕ × List ℕ)) (words : List (List ℕ)) (key : List ℕ) (more : List (List ℕ)) (value : List ℕ) (rest : List (List ℕ)) → words ≡ key ∷ more → more ≡ value ∷ rest → false ≡ not (bytes_eq key (codes "--input")) → is_some (value_of (codes "--input") pairs) ≡ false → false ≡ is_header_name (file_name value) → pairs_of encode_keys number pairs words ≡ Err (number + 1)
-refused_value number pairs words key more value rest are more_are same has bad =
-    ap (pairs_of encode_keys number pairs) (are ∙ ap (λ l. key ∷ l) more_are) ∙ bad_value number pairs key value rest (not_other _ same) has (sym bad)
-
-pub taken_value : (number : ℕ) (pairs : List (List ℕ × List ℕ)) (words : List (List ℕ)) (key : List ℕ) (more : List (List ℕ)) (value : List ℕ) (rest : List (List ℕ)) → words ≡ key ∷ more → more ≡ value ∷ rest → false ≡ not (bytes_eq key (codes "--input")) → is_some (value_of (codes "--input") pairs) ≡ false → true ≡ is_header_name (file_name value) → pairs_of encode_keys number pairs words ≡ pairs_of encode_keys (number + 2) (pairs ++ (codes "--input", value) ∷ []) rest
-taken_value number pairs words key more value rest are more_are same has good =
-    ap (pairs_of encode_keys number pairs) (are ∙ ap (λ l. key ∷ l) more_are) ∙ good_value number pairs key value rest (not_other _ same) has (sym good)
-
--- ---- the loop
-
-value_of-append : (word value : List ℕ) (pairs : List (List ℕ × List ℕ)) → bytes_eq word word ≡ true → is_some (value_of word pairs) ≡ false → value_of word (pairs ++ (word, value) ∷ []) ≡ Some value
-value_of-append word value [] same none = rw same refl
-value_of-append word value (pair ∷ pairs) same none =
-    elim (bytes_eq word pair.0) as (λ b. is_some (if b then Some pair.1 else value_of word pairs) ≡ false → (if b then Some pair.1 else value_of word (pairs ++ (word, value) ∷ [])) ≡ Some value) [
-      | true ↦ λ h. cc
-      | false ↦ λ h. value_of-append word value pairs same h
-    ] none
-
-pub one_more : (words : List (List ℕ)) (at : ℕ) (path : Option (List ℕ)) (value : List ℕ) → SoFar words at path → at + 2 ≤ length words → is_some path ≡ false → is_header_name (file_name value) ≡ true
-    → ((pairs : List (List ℕ × List ℕ)) → is_some (value_of (codes "--input") pairs) ≡ is_some path → pairs_of encode_keys (at + 2) pairs (drop at words) ≡ pairs_of encode_keys (at + 2 + 2) (pairs ++ (codes "--input", value) ∷ []) (drop (at + 2) words))
-    → SoFar words (at + 2) (Some value)
-one_more words at path value so_far inside none good reads = record {
-  pairs = so_far.pairs ++ (codes "--input", value) ∷ [];
-  goes_on = sym (reads so_far.pairs (ap is_some so_far.path_is)) ∙ so_far.goes_on;
-  path_is = value_of-append (codes "--input") value so_far.pairs refl (ap is_some so_far.path_is ∙ none);
-  inside = inside;
-  allowed = good;
-}
+pub header_name_of : (words : List (List ℕ)) (keys : List Key) (named : Bool) (path : List ℕ) → keys ≡ encode_keys named → named ≡ stands_as_key (codes "--name") words → pairs_of keys 2 [] words ≡ Ok (paired words)
+    → Some path ≡ value_of (codes "--input") (paired words) → is_header_name (unwrap_or (value_of (codes "--name") (paired words)) (file_name path)) ≡ true
+header_name_of words keys named path keys_are named_is are there =
+    name_is_header words named path (value_of (codes "--name") (paired words)) (ap (λ k. pairs_of k 2 [] words) (sym keys_are) ∙ are) (sym there) refl
+    (named_is ∙ stands_with_value keys 2 [] (paired words) words are (codes "--name"))
 
 -- a name that a header can carry from the command line is one that a header can carry
 printable_ends_no_line : (c : ℕ) → is_printable c ≡ true → not (is_line_end c) ≡ true
@@ -130,7 +94,11 @@ name_of_header name is =
       trimmed = and_from _ _ begins.1 ends.1;
     }
 
--- a borrowed path is there where its text is
-pub same_presence : (path : Option (Bor (List ℕ))) → is_some (option_copied path) ≡ is_some path
-same_presence None = refl
-same_presence (Some path) = refl
+-- ---- all words
+
+pub words_encode : {X : Type 0} (f : X → List ℕ) (xs : List X) (x : X) (text : List ℕ) → 1 ≤ length xs → x ≡ get_or xs 0 x → text ≡ f x → text ≡ codes "encode" → words_of (map f xs) ≡ encode_of (map f (take (length xs - 1) (drop 1 xs)))
+words_encode f [] x text some is text_is same = absurd (omega arith)
+words_encode f (y ∷ xs) x text some is text_is same =
+    let first : f y ≡ codes "encode" = ap f (sym is) ∙ sym text_is ∙ same in
+    let rest : take (length (y ∷ xs) - 1) xs ≡ xs = take_all (length (y ∷ xs) - 1) xs (omega arith) in
+    ap (λ w. words_of (w ∷ map f xs)) first ∙ ap (λ l. encode_of (map f l)) (sym rest)

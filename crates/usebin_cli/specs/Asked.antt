@@ -1,26 +1,81 @@
 -- What a reading of the words answers.
-use Rattle.std.specs.Prelude.{◌≡◌, ◌+◌, ◌++◌, ◌∷◌, [], ℕ, List, Result, Ok, Err, codes}
+use Rattle.std.specs.Prelude.{◌≡◌, ◌+◌, ◌≤◌, ◌++◌, ◌∷◌, [], ℕ, Bool, List, drop, get_or, length, take, is_some, Result, Ok, Err}
 use Rattle.std.specs.Borrow.{Bor}
-use Rattle.usebin_cli.specs.CommandLine.{Words, encode_keys, pairs_of}
+use Rattle.usebin_cli.specs.CommandLine.{PartAsked, Words}
 use Rattle.usebin_cli.specs.CommandLine.Words.{Asks, Refused}
-use Rattle.usebin_cli.specs.CommandLine.Command.{Encode}
+use Rattle.usebin_cli.specs.CommandLine.Command.{Decode, Encode}
+use Rattle.usebin_cli.specs.Keys.{Key, is_header_name, is_named_path, is_path, number_in, pairs_of}
+use Rattle.usebin_cli.specs.declared.keys.Key.{Key as TableKey}
+use Rattle.usebin_cli.specs.declared.keys.Rule.{Rule}
+use Rattle.usebin_cli.specs.declared.keys.Rule.TheVariants.{HeaderName, NamedPath, Number, Path}
 use Rattle.usebin_cli.specs.declared.words.Command.{Command}
 use Rattle.usebin_cli.specs.declared.words.Command.TheVariants as given
 use Rattle.usebin_cli.specs.declared.words.EncodeWords.{EncodeWords}
 
--- Words that go on behind some pairs begin with `--input` and the answered path, and go on with these words; or the word
--- of the answered number is refused.
-abbrev pub ReadsPair : List (List ℕ × List ℕ) → ℕ → List (List ℕ) → List (List ℕ) → Result (Bor (List ℕ)) ℕ → Type 0
-ReadsPair pairs number words rest (Ok path) =
-    pairs_of encode_keys number pairs words ≡ pairs_of encode_keys (number + 2) (pairs ++ (codes "--input", path.now) ∷ []) rest
-ReadsPair pairs number words rest (Err refused) = pairs_of encode_keys number pairs words ≡ Err refused
+-- ---- keys in a table
+
+-- the values that a rule takes
+abbrev pub takes_by : Rule → List ℕ → Bool
+takes_by Path value = is_path value
+takes_by NamedPath value = is_named_path value
+takes_by HeaderName value = is_header_name value
+takes_by (Number least most) value = is_some (number_in least most value)
+
+-- a key of a table
+abbrev pub key_model : TableKey → Key
+key_model key = record { word = key.word.now; takes = takes_by key.rule }
+
+-- ---- pairs
+
+-- words as pairs, without a last one that is alone
+abbrev pub paired : List (List ℕ) → List (List ℕ × List ℕ)
+paired [] = []
+paired (key ∷ []) = []
+paired (key ∷ value ∷ words) = (key, value) ∷ paired words
+
+-- the words are the pairs that they ask for, or the word of the answered number is the first that is refused
+abbrev pub ChecksPairs : List Key → List (List ℕ) → Result (Unit {0}) ℕ → Type 0
+ChecksPairs keys words (Ok done) = pairs_of keys 2 [] words ≡ Ok (paired words)
+ChecksPairs keys words (Err number) = pairs_of keys 2 [] words ≡ Err number
+
+-- the pair at an index goes on behind those before it, or a word of it is the first that is refused
+abbrev pub ChecksPair : List Key → List (List ℕ) → ℕ → Result (Unit {0}) ℕ → Type 0
+ChecksPair keys words at (Ok done) =
+    (at + 2 ≤ length words)
+    × (pairs_of keys (at + 2) (paired (take at words)) (drop at words)
+    ≡ pairs_of keys (at + 2 + 2) (paired (take at words) ++ (get_or words at [], get_or words (at + 1) []) ∷ []) (drop (at + 2) words))
+ChecksPair keys words at (Err number) = pairs_of keys (at + 2) (paired (take at words)) (drop at words) ≡ Err number
+
+-- ---- commands
+
+-- what `encode` was found to be asked for
+abbrev pub asked_of : EncodeWords → PartAsked
+asked_of asked = record { path = asked.path.now; name = asked.name; line = asked.line; part_size = asked.part_size; part = asked.part }
+
+-- its numbers are within their limits
+pub record IsEncodeAllowed (asked : EncodeWords) : Type 0 where
+  pub line_least : 64 ≤ asked.line
+  pub line_most : asked.line ≤ 997
+  pub part_size_least : 1 ≤ asked.part_size
+  pub part_size_most : asked.part_size ≤ 16777216
+  pub part_least : 1 ≤ asked.part
+
+abbrev pub IsAllowed : Command → Type 0
+IsAllowed (given.Encode asked) = IsEncodeAllowed asked
+IsAllowed (given.Decode path) = Unit {0}
 
 -- the words behind `encode` ask for what was answered, or the word of the answered number is the first that is refused
 abbrev pub ReadsEncode : Words → Result EncodeWords ℕ → Type 0
-ReadsEncode words (Ok encode) = words ≡ Asks (Encode encode.path.now encode.name)
+ReadsEncode words (Ok asked) = words ≡ Asks (Encode (asked_of asked))
 ReadsEncode words (Err number) = words ≡ Refused number
 
--- the words ask for what was answered, or the word of the answered number is the first that is refused
+-- the same of the words behind `decode`
+abbrev pub ReadsDecode : Words → Result (Bor (List ℕ)) ℕ → Type 0
+ReadsDecode words (Ok path) = words ≡ Asks (Decode path.now)
+ReadsDecode words (Err number) = words ≡ Refused number
+
+-- the same of all words
 abbrev pub ReadsCommand : Words → Result Command ℕ → Type 0
-ReadsCommand words (Ok (given.Encode encode)) = words ≡ Asks (Encode encode.path.now encode.name)
+ReadsCommand words (Ok (given.Encode asked)) = words ≡ Asks (Encode (asked_of asked))
+ReadsCommand words (Ok (given.Decode path)) = words ≡ Asks (Decode path.now)
 ReadsCommand words (Err number) = words ≡ Refused number

@@ -1,94 +1,100 @@
--- The words of the command line, those behind the program's name: the command, and then pairs of a key and its value,
--- in any order, each key once.
-use Rattle.std.specs.Prelude.{ℕ, ◌+◌, ◌-◌, ◌==◌, ◌&&◌, Bool, not, nat_le, List, [], ◌∷◌, ◌++◌, length, get_or, if◌then◌else◌, Result, Ok, Err, Option, Some, None, is_some, codes}
+-- The words of the command line, those behind the program's name: the command, and then pairs of a key and its value.
+use Rattle.std.specs.Prelude.{ℕ, ◌+◌, Bool, if◌then◌else◌, List, [], ◌∷◌, length, Result, Ok, Err, Option, Some, None, is_some, codes}
 use Rattle.std.specs.Str.{bytes_eq}
-use Rattle.std.specs.List.{list_all, list_any}
+use Rattle.std.specs.Option.{option_and_then, option_map, unwrap_or}
+use Rattle.usebin_cli.specs.Keys.{Key, file_name, is_header_name, is_named_path, is_path, number_in, pairs_of, stands_as_key, value_of}
 
--- what the words ask for: the body of the file at a path, under a name
+-- a part of a file that is to be encoded: the file's path, the name in the header, how many characters a data line has
+-- before it is full, how many bytes the parts have, and the part's number, from 1
+pub record PartAsked : Type 0 where
+  pub path : List ℕ
+  pub name : List ℕ
+  pub line : ℕ
+  pub part_size : ℕ
+  pub part : ℕ
+
+-- what the words ask for: the body of a part of a file, or the bytes of the saved body at a path
 pub data Command : Type 0 where
-  Encode : (path name : List ℕ) → Command
+  Encode : (asked : PartAsked) → Command
+  Decode : (path : List ℕ) → Command
 
 -- what the words ask for, or the number of the first word that is refused, counted from 1
 pub data Words : Type 0 where
   Asks : Command → Words
   Refused : (number : ℕ) → Words
 
--- ---- pairs
+-- ---- the words behind a command
 
--- a key that a command knows, and the values that it takes
-pub record Key : Type 0 where
-  pub word : List ℕ
-  pub takes : List ℕ → Bool
+-- pairs that lack a required key ask for nothing, and are refused at this number
+abbrev pub asks_or_lacks : ℕ → Option Command → Words
+asks_or_lacks missing (Some command) = Asks command
+asks_or_lacks missing None = Refused missing
 
--- the value that a key has in some pairs
-abbrev pub value_of : List ℕ → List (List ℕ × List ℕ) → Option (List ℕ)
-value_of word [] = None
-value_of word (pair ∷ pairs) = if bytes_eq word pair.0 then Some pair.1 else value_of word pairs
+abbrev pub words_of_pairs : (List (List ℕ × List ℕ) → Option Command) → ℕ → Result (List (List ℕ × List ℕ)) ℕ → Words
+words_of_pairs asked missing (Ok pairs) = asks_or_lacks missing (asked pairs)
+words_of_pairs asked missing (Err number) = Refused number
 
--- whether a word can be the next key: the command knows it, and no pair so far has it
-abbrev pub is_next_key : List Key → List (List ℕ × List ℕ) → List ℕ → Bool
-is_next_key keys pairs word = list_any (λ key. bytes_eq word key.word) keys && not (is_some (value_of word pairs))
-
--- whether a value is one that the key takes
-abbrev pub takes_value : List Key → List ℕ → List ℕ → Bool
-takes_value keys word value = list_any (λ key. bytes_eq word key.word && key.takes value) keys
-
--- Some pairs and those in further words, of which the first has the given number, or the number of the first word that
--- is refused: one that is no next key, or a value that its key doesn't take. A value that is missing has the number
--- behind the last word.
-abbrev pub pairs_of : List Key → ℕ → List (List ℕ × List ℕ) → List (List ℕ) → Result (List (List ℕ × List ℕ)) ℕ
-pairs_of keys number pairs [] = Ok pairs
-pairs_of keys number pairs (word ∷ []) = if is_next_key keys pairs word then Err (number + 1) else Err number
-pairs_of keys number pairs (word ∷ value ∷ words) =
-    if is_next_key keys pairs word
-    then (if takes_value keys word value then pairs_of keys (number + 2) (pairs ++ (word, value) ∷ []) words else Err (number + 1))
-    else Err number
-
--- ---- the name in a header
-
--- what follows the last slash of the rest, or else what is given
-abbrev pub name_after : List ℕ → List ℕ → List ℕ
-name_after name [] = name
-name_after name (c ∷ rest) = if c == 47 then name_after rest rest else name_after name rest
-
--- the bytes behind the last slash of a path
-abbrev pub file_name : List ℕ → List ℕ
-file_name path = name_after path path
-
--- a printable character of ASCII
-abbrev pub is_printable : ℕ → Bool
-is_printable c = nat_le 32 c && nat_le c 126
-
--- 1 to 255 printable characters, with no space at either end
-abbrev pub is_header_name : List ℕ → Bool
-is_header_name name =
-    nat_le 1 (length name) && nat_le (length name) 255 && not (get_or name 0 0 == 32) && not (get_or name (length name - 1) 0 == 32)
-    && list_all is_printable name
+-- What words behind a command ask for, of which the first is the second of all, by the command's keys and by what pairs of
+-- them ask for. Where a required key is missing, the number is the one behind the last word.
+abbrev pub command_of : List Key → (List (List ℕ × List ℕ) → Option Command) → List (List ℕ) → Words
+command_of keys asked words = words_of_pairs asked (length words + 2) (pairs_of keys 2 [] words)
 
 -- ---- encode
 
--- `--input`: a path whose last part can be the name in the header
-abbrev pub encode_keys : List Key
-encode_keys = record { word = codes "--input"; takes = λ path. is_header_name (file_name path) } ∷ []
+-- how many characters a data line may have before it is full
+abbrev pub line_of : List ℕ → Option ℕ
+line_of = number_in 64 997
 
--- a path that is there asks for the file's body under its own name; one that is missing is refused at this number
-abbrev pub encode_of_path : ℕ → Option (List ℕ) → Words
-encode_of_path missing (Some path) = Asks (Encode path (file_name path))
-encode_of_path missing None = Refused missing
+-- how many bytes a part may have
+abbrev pub part_size_of : List ℕ → Option ℕ
+part_size_of = number_in 1 16777216
 
-abbrev pub encode_of_pairs : ℕ → Result (List (List ℕ × List ℕ)) ℕ → Words
-encode_of_pairs missing (Ok pairs) = encode_of_path missing (value_of (codes "--input") pairs)
-encode_of_pairs missing (Err number) = Refused number
+-- the number of a part
+abbrev pub part_of : List ℕ → Option ℕ
+part_of = number_in 1 4294967295
 
--- the words behind the command, of which the first is the second of all
+-- The keys of `encode`. Where no `--name` is given, the last part of the path is the name, and has to be able to.
+abbrev pub encode_keys : Bool → List Key
+encode_keys is_named =
+    record { word = codes "--input"; takes = if is_named then is_path else is_named_path }
+    ∷ record { word = codes "--name"; takes = is_header_name }
+    ∷ record { word = codes "--line"; takes = λ value. is_some (line_of value) }
+    ∷ record { word = codes "--part-size"; takes = λ value. is_some (part_size_of value) }
+    ∷ record { word = codes "--part"; takes = λ value. is_some (part_of value) } ∷ []
+
+-- what the pairs ask for, of the file at a path
+abbrev pub part_asked : List (List ℕ × List ℕ) → List ℕ → PartAsked
+part_asked pairs path = record {
+  path = path;
+  name = unwrap_or (value_of (codes "--name") pairs) (file_name path);
+  line = unwrap_or (option_and_then line_of (value_of (codes "--line") pairs)) 128;
+  part_size = unwrap_or (option_and_then part_size_of (value_of (codes "--part-size") pairs)) 16777216;
+  part = unwrap_or (option_and_then part_of (value_of (codes "--part") pairs)) 1;
+}
+
+abbrev pub encode_asked : List (List ℕ × List ℕ) → Option Command
+encode_asked pairs = option_map (λ path. Encode (part_asked pairs path)) (value_of (codes "--input") pairs)
+
 abbrev pub encode_of : List (List ℕ) → Words
-encode_of words = encode_of_pairs (length words + 2) (pairs_of encode_keys 2 [] words)
+encode_of words = command_of (encode_keys (stands_as_key (codes "--name") words)) encode_asked words
+
+-- ---- decode
+
+abbrev pub decode_keys : List Key
+decode_keys = record { word = codes "--input"; takes = is_path } ∷ []
+
+abbrev pub decode_asked : List (List ℕ × List ℕ) → Option Command
+decode_asked pairs = option_map (λ path. Decode path) (value_of (codes "--input") pairs)
+
+abbrev pub decode_of : List (List ℕ) → Words
+decode_of words = command_of decode_keys decode_asked words
 
 -- ---- all words
 
 abbrev pub words_of : List (List ℕ) → Words
 words_of [] = Refused 1
-words_of (command ∷ words) = if bytes_eq command (codes "encode") then encode_of words else Refused 1
+words_of (command ∷ words) =
+    if bytes_eq command (codes "encode") then encode_of words else if bytes_eq command (codes "decode") then decode_of words else Refused 1
 
 -- the words are refused
 abbrev pub IsRefused : Words → Type 0

@@ -1,7 +1,10 @@
 pub mod Asked
 pub mod Body
 pub mod CommandLine
+pub mod Decode
 pub mod Encode
+pub mod Keys
+pub mod Printed
 pub mod Reading
 pub mod Run
 pub mod Writing

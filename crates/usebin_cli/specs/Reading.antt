@@ -1,5 +1,5 @@
--- What is seen of an input before a call that reads a file whole, and after it.
-use Rattle.std.specs.Prelude.{◌≡◌, ◌≤◌, ◌<◌, ℕ, List, length, take, Option, Some, None, Result, Ok, Err, IsSomeAnd, IfSome, OnSome, ⊤}
+-- What is seen of an input before a call that reads a file, or a piece of it, and after it.
+use Rattle.std.specs.Prelude.{◌≡◌, ◌≤◌, ◌<◌, ◌+◌, ℕ, List, length, take, drop, Option, Some, None, Result, Ok, Err, IsSomeAnd, IfSome, OnSome, ⊤}
 use Rattle.ub_base.specs.Causes.{Rose}
 use Rattle.ub_base.specs.Input.{file_of}
 use Rattle.ub_base.specs.declared.blame.Blame.{Blame}
@@ -56,11 +56,15 @@ Fits most current = IfSome current (λ len. len ≤ most)
 abbrev pub Exceeds : ℕ → Option ℕ → Type 0
 Exceeds most current = IsSomeAnd current (λ len. most < len)
 
--- nothing is told of the failed call, or that it was a read
-abbrev pub IsRead : Option Blame → Type 0
-IsRead None = ⊤
-IsRead (Some (Read place)) = ⊤
-IsRead (Some other) = ⊥
+-- a place is one of so many from a place on
+abbrev pub IsIn : (place len at : ℕ) → Type 0
+IsIn place len at = (place ≤ at) × (at < place + len)
+
+-- nothing is told of the failed call, or that it was a read at one of so many places from a place on
+abbrev pub IsReadIn : (place len : ℕ) → Option Blame → Type 0
+IsReadIn place len None = ⊤
+IsReadIn place len (Some (Read at)) = IsIn place len at
+IsReadIn place len (Some other) = ⊥
 
 -- nothing is told of the failed call, or that it was a read or the opening of this path
 abbrev pub IsReadOrOpen : List ℕ → Option Blame → Type 0
@@ -74,23 +78,33 @@ abbrev pub IsFileAt : List ℕ → Option (List (List ℕ × List ℕ)) → List
 IsFileAt path None bytes = ⊤
 IsFileAt path (Some files) bytes = file_of path files ≡ Some bytes
 
--- the bytes are a front of the current file's, where the input tells these
-abbrev pub IsFront : Option (List ℕ) → List ℕ → Type 0
-IsFront None bytes = ⊤
-IsFront (Some content) bytes = bytes ≡ take (length bytes) content
+-- the bytes are those of the current file from a place on, where the input tells these
+abbrev pub IsPiece : Option (List ℕ) → ℕ → List ℕ → Type 0
+IsPiece None place bytes = ⊤
+IsPiece (Some content) place bytes = bytes ≡ take (length bytes) (drop place content)
+
+-- the bytes are those from a place on of the file with this path, which has this length, where the input tells its files
+abbrev pub IsPieceAt : List ℕ → Option (List (List ℕ × List ℕ)) → ℕ → ℕ → List ℕ → Type 0
+IsPieceAt path None size place bytes = ⊤
+IsPieceAt path (Some files) size place bytes =
+    (content : List ℕ) × (file_of path files ≡ Some content) × (length content ≡ size) × (bytes ≡ take (length bytes) (drop place content))
+
+-- there is a file of this length, and the place is in it
+abbrev pub IsBelow : Option ℕ → ℕ → Type 0
+IsBelow current place = IsSomeAnd current (λ len. place < len)
 
 -- how the reading of a file of at most so many bytes ends
 abbrev pub ReadEnds : ℕ → (Option Blame → Type 0) → Reading → Result (List ℕ) ReadError → Type 0
 ReadEnds most allowed r (Ok bytes) = IsFaultless r × (r.current ≡ Some (length bytes)) × (length bytes ≤ most)
 ReadEnds most allowed r (Err Memory) = IsFaultless r × Fits most r.current
 ReadEnds most allowed r (Err Fault) = HasFailed allowed r × Fits most r.current
-ReadEnds most allowed r (Err (Short place)) = IsShortAt place r × Fits most r.current
+ReadEnds most allowed r (Err (Short place)) = IsShortAt place r × Fits most r.current × IsBelow r.current place
 ReadEnds most allowed r (Err TooLong) = IsFaultless r × Exceeds most r.current
 
--- how the reading of one piece ends
-abbrev pub PieceEnds : Reading → Result (Unit {0}) ReadError → Type 0
-PieceEnds r (Ok _) = IsFaultless r × (r.blame_now ≡ r.blame_before)
-PieceEnds r (Err Memory) = IsFaultless r
-PieceEnds r (Err Fault) = HasFailed IsRead r
-PieceEnds r (Err (Short place)) = IsShortAt place r
-PieceEnds r (Err TooLong) = ⊥
+-- how the reading of so many bytes of the current file, from a place on, ends
+abbrev pub PieceEnds : {T : Type 0} → (place len : ℕ) → Reading → Result T ReadError → Type 0
+PieceEnds place len r (Ok _) = IsFaultless r × (r.blame_now ≡ r.blame_before)
+PieceEnds place len r (Err Memory) = IsFaultless r
+PieceEnds place len r (Err Fault) = HasFailed (IsReadIn place len) r
+PieceEnds place len r (Err (Short at)) = IsShortAt at r × IsIn place len at
+PieceEnds place len r (Err TooLong) = ⊥

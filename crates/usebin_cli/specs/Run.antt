@@ -1,29 +1,36 @@
 -- What a run of the top call says of the words, the input and the outputs.
-use Rattle.std.specs.Prelude.{◌≡◌, ◌⊎◌, ℕ, List, [], ◌∷◌, ◌++◌, Option, codes}
+use Rattle.std.specs.Prelude.{◌≡◌, ◌⊎◌, ℕ, List, [], ◌∷◌, ◌++◌, Option, Some, codes}
 use Rattle.std.specs.Fmt.{decimal}
 use Rattle.ub_base.specs.Causes.{Rose}
 use Rattle.usebin_cli.specs.CommandLine.{Words}
 use Rattle.usebin_cli.specs.CommandLine.Words.{Asks, Refused}
-use Rattle.usebin_cli.specs.CommandLine.Command.{Encode}
-use Rattle.usebin_cli.specs.Body.{most_bytes}
-use Rattle.usebin_cli.specs.Encode.{IsEncoded}
-use Rattle.usebin_cli.specs.Reading.{Reading, HasFailed, Exceeds, IsReadOrOpen}
+use Rattle.usebin_cli.specs.CommandLine.Command.{Decode, Encode}
+use Rattle.yenc_body.specs.declared.part.Part.{Part as BodyPart}
+use Rattle.yenc_body.specs.declared.fault.Fault.{Fault}
+use Rattle.usebin_cli.specs.Decode.{IsDecoded, IsNoBody, most_text}
+use Rattle.usebin_cli.specs.Encode.{IsAskedCall, IsEncoded, IsInPart, IsOver}
+use Rattle.usebin_cli.specs.Printed.{fault_line, range_line}
+use Rattle.usebin_cli.specs.Reading.{Reading, HasFailed, IsReadOrOpen, IsBelow, Fits, Exceeds}
+use Rattle.usebin_cli.specs.declared.encode.Limit.{Limit}
+use Rattle.usebin_cli.specs.declared.encode.Limit.TheVariants.{File, Part, Segments}
 use Rattle.usebin_cli.specs.Writing.{Written}
 
 -- the text that the words ask for, of what the input holds
 abbrev pub IsTextFor : Words → Option (List (List ℕ × List ℕ)) → Reading → List ℕ → Type 0
 IsTextFor (Refused number) files r text = ⊥
-IsTextFor (Asks (Encode path name)) files r text = IsEncoded path name files r.current text
+IsTextFor (Asks (Encode asked)) files r text = IsEncoded asked files r.current text
+IsTextFor (Asks (Decode path)) files r text = (p : BodyPart) × IsDecoded path files r.current p × (text ≡ p.content)
 
 -- the text that the words ask for was written so
 abbrev pub Wrote : (List ℕ → Written → Type 0) → Words → Option (List (List ℕ × List ℕ)) → Reading → Written → Type 0
 Wrote how words files r w = (text : List ℕ) × IsTextFor words files r text × how text w
 
--- a call on the input failed; where that call is told, it is one that the words ask for: a read, or the opening of the
--- path in them
+-- a call on the input failed; where that call is told, it is one that the words ask for: a read in what they ask for, or the
+-- opening of the path in them
 abbrev pub InputFailed : Words → Reading → Type 0
 InputFailed (Refused number) r = ⊥
-InputFailed (Asks (Encode path name)) r = HasFailed (IsReadOrOpen path) r
+InputFailed (Asks (Encode asked)) r = HasFailed (IsAskedCall asked r.current) r
+InputFailed (Asks (Decode path)) r = HasFailed (IsReadOrOpen path) r
 
 -- a text with the end of its line
 abbrev pub line : List ℕ → List ℕ
@@ -34,17 +41,63 @@ abbrev pub IsWordsLine : Words → List ℕ → Type 0
 IsWordsLine (Refused number) text = text ≡ codes "usebin: words " ++ decimal number ++ 10 ∷ []
 IsWordsLine (Asks command) text = ⊥
 
--- the line for an input that was read and is refused: a read gave no byte below the file's length, or the file is too long
-abbrev pub IsInputLine : Reading → List ℕ → Type 0
-IsInputLine r text =
-    (Rose r.shorts_before r.shorts_now × (text ≡ codes "usebin: short " ++ decimal r.short_place ++ 10 ∷ []))
-    ⊎ (Exceeds most_bytes r.current × (text ≡ line (codes "usebin: limit file 16777216")))
+-- the line for a file, or a part that is asked of it, that is refused
+abbrev pub limit_line : Limit → List ℕ
+limit_line File = line (codes "usebin: limit file 1099511627776")
+limit_line Segments = line (codes "usebin: limit segments 262144")
+limit_line (Part total) = codes "usebin: limit part " ++ decimal total ++ 10 ∷ []
+
+-- the words ask for what goes past a limit of a file of this length, and this is its line
+abbrev pub IsLimitLine : Words → Option ℕ → List ℕ → Type 0
+IsLimitLine (Refused number) current text = ⊥
+IsLimitLine (Asks (Encode asked)) current text = (limit : Limit) × IsOver asked current limit × (text ≡ limit_line limit)
+IsLimitLine (Asks (Decode path)) current text = Exceeds most_text current × (text ≡ line (codes "usebin: limit text 67108864"))
+
+-- the words ask for what goes past a limit of a file of this length
+abbrev pub IsOverLimit : Words → Option ℕ → Type 0
+IsOverLimit words current = (text : List ℕ) × IsLimitLine words current text
+
+-- the words ask for the byte at this place of a file of this length: `encode` for those of a part, `decode` for all
+abbrev pub IsAskedPlace : Words → Option ℕ → ℕ → Type 0
+IsAskedPlace (Refused number) current place = ⊥
+IsAskedPlace (Asks (Encode asked)) current place = IsInPart asked current place
+IsAskedPlace (Asks (Decode path)) current place = IsBelow current place
+
+-- the line for a text that the words ask the bytes of, and that is no body
+abbrev pub IsFaultLine : Words → Option (List (List ℕ × List ℕ)) → Option ℕ → List ℕ → Type 0
+IsFaultLine (Asks (Decode path)) files current text = (f : Fault) × IsNoBody path files current f × (text ≡ fault_line f)
+IsFaultLine other files current text = ⊥
+
+-- the words ask for the bytes of a body, and what is at their path is none
+abbrev pub AsksOfNoBody : Words → Option (List (List ℕ × List ℕ)) → Option ℕ → Type 0
+AsksOfNoBody words files current = (text : List ℕ) × IsFaultLine words files current text
+
+-- the words ask for the bytes of a body, and a body within the limits is what the input tells at their path
+abbrev pub AsksOfBody : Words → Option (List (List ℕ × List ℕ)) → Option ℕ → Type 0
+AsksOfBody (Asks (Decode path)) (Some files) current = (p : BodyPart) × IsDecoded path (Some files) current p × Fits most_text current
+AsksOfBody other files current = ⊥
+
+-- the line for an input that is refused: a read gave no byte where the words ask for one, a limit is passed, or a text is
+-- no body
+abbrev pub IsInputLine : Words → Option (List (List ℕ × List ℕ)) → Reading → List ℕ → Type 0
+IsInputLine words files r text =
+    (Rose r.shorts_before r.shorts_now × IsAskedPlace words r.current r.short_place × (text ≡ codes "usebin: short " ++ decimal r.short_place ++ 10 ∷ []))
+    ⊎ (IsLimitLine words r.current text ⊎ IsFaultLine words files r.current text)
+
+-- what is told once the text for the output is made, and before it is written: of a decoded part its range
+abbrev pub IsNote : Words → Option (List (List ℕ × List ℕ)) → Option ℕ → List ℕ → Type 0
+IsNote (Asks (Decode path)) files current note = (p : BodyPart) × IsDecoded path files current p × (note ≡ range_line p)
+IsNote other files current note = note ≡ []
+
+-- such a note and then a line
+abbrev pub IsNoteAnd : Words → Option (List (List ℕ × List ℕ)) → Option ℕ → List ℕ → List ℕ → Type 0
+IsNoteAnd words files current last text = (note : List ℕ) × IsNote words files current note × (text ≡ note ++ last)
 
 -- what a status has on standard error
-pub record IsErrorText (words : Words) (r : Reading) (status : ℕ) (text : List ℕ) : Type 0 where
-  pub done : status ≡ 0 → text ≡ []
+pub record IsErrorText (words : Words) (files : Option (List (List ℕ × List ℕ))) (r : Reading) (status : ℕ) (text : List ℕ) : Type 0 where
+  pub done : status ≡ 0 → IsNote words files r.current text
   pub words_refused : status ≡ 2 → IsWordsLine words text
   pub input_fault : status ≡ 3 → text ≡ line (codes "usebin: input fault")
-  pub output_fault : status ≡ 4 → text ≡ line (codes "usebin: output fault")
-  pub input_refused : status ≡ 6 → IsInputLine r text
+  pub output_fault : status ≡ 4 → IsNoteAnd words files r.current (line (codes "usebin: output fault")) text
+  pub input_refused : status ≡ 6 → IsInputLine words files r text
   pub memory : status ≡ 7 → text ≡ line (codes "usebin: no memory")

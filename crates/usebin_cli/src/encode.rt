@@ -1,17 +1,35 @@
 // The command `encode`.
-ghost use Rattle.usebin_cli.specs.Encode.{EncodeEnds};
+ghost use Rattle.std.specs.Prelude.{◌≡◌, ◌≤◌};
+ghost use Rattle.usebin_cli.specs.Asked.{asked_of, IsEncodeAllowed};
+ghost use Rattle.usebin_cli.specs.Body.{parts_of as parts_of_file};
+ghost use Rattle.usebin_cli.specs.Encode.{EncodeEnds, IsPartOrLimit, ReadsPart};
 ghost use Rattle.usebin_cli.specs.Reading.{reading};
 ghost use Rattle.usebin_cli.specs.Writing.{written};
 
 use crate::body::{body_of, text_of};
-use crate::reading::{ReadError, read_file};
+use crate::reading::{ReadError, read_part};
+use crate::words::EncodeWords;
 use crate::writing::write_all;
 use std::alloc::Global;
-use ub_base::{Failed, Input, Sink};
-use yenc_lines::Name;
+use ub_base::{Bytes, Failed, Input, Sink};
+use yenc_body::BodySpec;
 
 // How many bytes a file may have.
-const MOST_BYTES: u64 = 16_777_216;
+const MOST_BYTES: u64 = 1_099_511_627_776;
+
+// How many parts a file may have.
+const MOST_PARTS: u64 = 262_144;
+
+/// What is wrong with a file, or with the part that is asked of it.
+#[derive(Clone, Copy, Debug, PartialEq, Eq)]
+pub(crate) enum Limit {
+    /// The file has too many bytes.
+    File,
+    /// The file has too many parts of the asked length.
+    Segments,
+    /// The file has no such part. It has so many.
+    Part(u32),
+}
 
 /// How `encode` ended.
 #[derive(Clone, Copy, Debug, PartialEq, Eq)]
@@ -24,30 +42,34 @@ pub(crate) enum EncodeEnd {
     InputFault,
     /// A read gave no byte at this place, below the file's length.
     Short(u64),
-    /// The file has too many bytes.
-    FileLimit,
+    /// The file or the part is refused, and nothing was read of it.
+    Limit(Limit),
     /// A write failed.
     OutputFault,
 }
 
-/// Writes the body of the file at a path, under a name.
+// A part of a file that was read: which one, and its bytes.
+#[derive(Drop)]
+struct AskedPart {
+    spec: BodySpec,
+    content: Bytes,
+}
+
+/// Writes the body of the asked part of a file.
 pub(crate) fn encode<I: Input, O: Sink>(
     alloc: Global,
-    path: &str,
-    name: Name,
+    asked: EncodeWords<'_>,
     input: &mut I,
     out: &mut O,
 ) -> EncodeEnd
-    ensures { EncodeEnds path.now name (I.files input.old) (reading I.faults I.shorts I.short_place I.current I.blame input.old input.new) (written O.faults O.told out.old out.new) result }
+    requires { IsEncodeAllowed asked }
+    ensures { EncodeEnds (asked_of asked.entry) (I.files input.old) (reading I.faults I.shorts I.short_place I.current I.blame input.old input.new) (written O.faults O.told out.old out.new) result }
 {
-    let content = match read_file(alloc, path, MOST_BYTES, input) {
-        Ok(content) => content,
-        Err(ReadError::Memory) => return EncodeEnd::Memory,
-        Err(ReadError::Fault) => return EncodeEnd::InputFault,
-        Err(ReadError::Short(place)) => return EncodeEnd::Short(place),
-        Err(ReadError::TooLong) => return EncodeEnd::FileLimit,
+    let part = match read_asked(alloc, asked, input) {
+        Ok(part) => part,
+        Err(end) => return end,
     };
-    let Ok(lines) = body_of(alloc, name, content.as_slice()) else {
+    let Ok(lines) = body_of(alloc, &part.spec, part.content.as_slice()) else {
         return EncodeEnd::Memory;
     };
     let Ok(text) = text_of(alloc, &lines) else {
@@ -57,4 +79,68 @@ pub(crate) fn encode<I: Input, O: Sink>(
         Ok(()) => EncodeEnd::Done,
         Err(Failed) => EncodeEnd::OutputFault,
     }
+}
+
+// Reads the asked part of a file, and no other byte of it.
+fn read_asked<I: Input>(
+    alloc: Global,
+    asked: EncodeWords<'_>,
+    input: &mut I,
+) -> Result<AskedPart, EncodeEnd>
+    requires { IsEncodeAllowed asked }
+    ensures { ReadsPart (asked_of asked.entry) (I.files input.old) (reading I.faults I.shorts I.short_place I.current I.blame input.old input.new) result }
+{
+    let path = asked.path;
+    let part_size = u64::from(asked.part_size);
+    let Ok(size) = input.open(path) else {
+        return Err(EncodeEnd::InputFault);
+    };
+    let spec = match spec_of(asked, size) {
+        Ok(spec) => spec,
+        Err(limit) => return Err(EncodeEnd::Limit(limit)),
+    };
+    let place = spec.first - 1;
+    let len = part_size.min(size - place) as usize;
+    match read_part(alloc, place, len, input) {
+        Ok(content) => Ok(AskedPart { spec, content }),
+        Err(ReadError::Memory) => Err(EncodeEnd::Memory),
+        Err(ReadError::Fault) => Err(EncodeEnd::InputFault),
+        Err(ReadError::Short(place)) => Err(EncodeEnd::Short(place)),
+        Err(ReadError::TooLong) => unreachable!(),
+    }
+}
+
+// The asked part of a file of this length, or why it isn't made.
+fn spec_of(asked: EncodeWords<'_>, size: u64) -> Result<BodySpec, Limit>
+    requires { IsEncodeAllowed asked }
+    ensures { IsPartOrLimit (asked_of asked.entry) size result }
+{
+    if size > MOST_BYTES {
+        return Err(Limit::File);
+    }
+    let parts = parts_of(size, asked.part_size);
+    if parts > MOST_PARTS {
+        return Err(Limit::Segments);
+    }
+    let total = parts as u32;
+    if asked.part > total {
+        return Err(Limit::Part(total));
+    }
+    let place = u64::from(asked.part - 1) * u64::from(asked.part_size);
+    Ok(BodySpec {
+        name: asked.name,
+        part: asked.part,
+        total,
+        first: place + 1,
+        size,
+        line: asked.line,
+    })
+}
+
+// How many parts of a length a file has: one where it has no bytes.
+fn parts_of(size: u64, part_size: u32) -> u64
+    requires { 1 ≤ part_size }
+    ensures { result ≡ parts_of_file size part_size }
+{
+    size.div_ceil(u64::from(part_size)).max(1)
 }

@@ -2,9 +2,13 @@
 #![tactic(auto)]
 
 mod body;
+mod decode;
 mod encode;
+mod keys;
 mod nothing;
+mod printed;
 mod reading;
+mod statuses;
 mod top;
 mod words;
 mod writing;

@@ -1,6 +1,6 @@
-// Reading a file whole.
-ghost use Rattle.std.specs.Prelude.{◌≡◌, ◌≤◌, ◌<◌, ◌^◌, length, Some, OnOk, IfOk};
-ghost use Rattle.usebin_cli.specs.Reading.{reading, IsFileAt, IsFront, IsRead, IsReadOrOpen, ReadEnds, PieceEnds};
+// Reading a file, or a part of it.
+ghost use Rattle.std.specs.Prelude.{◌≡◌, ◌≤◌, ◌<◌, ◌+◌, ◌^◌, length, OnOk, IfOk, IsSomeAnd};
+ghost use Rattle.usebin_cli.specs.Reading.{reading, IsFileAt, IsPiece, IsReadOrOpen, ReadEnds, PieceEnds};
 
 use std::alloc::Global;
 use ub_base::{Bytes, Failed, Input, Memory};
@@ -8,7 +8,7 @@ use ub_base::{Bytes, Failed, Input, Memory};
 // How many bytes are asked of the input at once.
 const PIECE: usize = 65_536;
 
-/// Why a file was not read whole.
+/// Why a file, or a part of it, was not read.
 #[derive(Clone, Copy, Debug, PartialEq, Eq)]
 pub(crate) enum ReadError {
     /// No memory was left.
@@ -38,16 +38,22 @@ pub(crate) fn read_file<I: Input>(
     if len > most {
         return Err(ReadError::TooLong);
     }
-    read_current(alloc, len as usize, input)
+    read_part(alloc, 0, len as usize, input)
 }
 
-// Reads the current file to its length.
-fn read_current<I: Input>(alloc: Global, len: usize, input: &mut I) -> Result<Bytes, ReadError>
-    requires current { I.current input.old ≡ Some len }
-    ensures front { IfOk result (IsFront (I.content input.old)) }
+/// Reads so many bytes of the current file, from a place on, counted from 0.
+pub(crate) fn read_part<I: Input>(
+    alloc: Global,
+    place: u64,
+    len: usize,
+    input: &mut I,
+) -> Result<Bytes, ReadError>
+    requires inside { IsSomeAnd (I.current input.old) (λ size. place + len ≤ size) }
+    requires most { place + len < 2 ^ 62 }
+    ensures piece { IfOk result (IsPiece (I.content input.old) place) }
     ensures length { IfOk result (λ bytes. length bytes ≡ len) }
     ensures current { I.current input.new ≡ I.current input.old }
-    ensures ends { ReadEnds len IsRead (reading I.faults I.shorts I.short_place I.current I.blame input.old input.new) result }
+    ensures ends { PieceEnds place len (reading I.faults I.shorts I.short_place I.current I.blame input.old input.new) result }
 {
     let mut bytes = Bytes::new(alloc);
     let Ok(()) = bytes.reserve(len) else {
@@ -55,32 +61,35 @@ fn read_current<I: Input>(alloc: Global, len: usize, input: &mut I) -> Result<By
     };
     let mut buffer = [0; PIECE];
     while bytes.len() < len {
-        read_piece(len, input, &mut bytes, &mut buffer)?;
+        read_piece(place, len, input, &mut bytes, &mut buffer)?;
     }
     Ok(bytes)
 }
 
-// Reads the next piece, through a buffer.
+// Reads the next bytes of a part, through a buffer.
 fn read_piece<I: Input>(
+    place: u64,
     len: usize,
     input: &mut I,
     bytes: &mut Bytes,
     buffer: &mut [u8; PIECE],
 ) -> Result<(), ReadError>
-    requires current { I.current input.old ≡ Some len }
-    requires inside { length bytes.old < len }
-    ensures front { OnOk result (IsFront (I.content input.old) bytes.old → IsFront (I.content input.old) bytes.new) }
+    requires inside { IsSomeAnd (I.current input.old) (λ size. place + len ≤ size) }
+    requires most { place + len < 2 ^ 62 }
+    requires less { length bytes.old < len }
+    ensures piece { OnOk result (IsPiece (I.content input.old) place bytes.old → IsPiece (I.content input.old) place bytes.new) }
     ensures more { OnOk result (length bytes.old < length bytes.new) }
     ensures most { OnOk result (length bytes.new ≤ len) }
     ensures current { I.current input.new ≡ I.current input.old }
     ensures content { I.content input.new ≡ I.content input.old }
-    ensures ends { PieceEnds (reading I.faults I.shorts I.short_place I.current I.blame input.old input.new) result }
+    ensures ends { PieceEnds place len (reading I.faults I.shorts I.short_place I.current I.blame input.old input.new) result }
 {
     let at = bytes.len();
     let room = (len - at).min(PIECE);
     let piece = &mut buffer[..room];
-    match input.read_at(at as u64, piece) {
-        Ok(0) => Err(ReadError::Short(at as u64)),
+    let next = place + at as u64;
+    match input.read_at(next, piece) {
+        Ok(0) => Err(ReadError::Short(next)),
         Ok(n) => match bytes.extend(&piece[..n]) {
             Ok(()) => Ok(()),
             Err(Memory) => Err(ReadError::Memory),

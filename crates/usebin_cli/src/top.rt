@@ -2,14 +2,16 @@
 ghost use Rattle.std.specs.Prelude.{◌≡◌, ◌≢◌, ◌≤◌, ◌<◌, ◌↔◌, ◌⊎◌, ℕ, List, map, string_bytes};
 ghost use Rattle.ub_base.specs.Causes.{Rose};
 ghost use Rattle.usebin_cli.specs.CommandLine.{words_of, IsRefused};
-ghost use Rattle.usebin_cli.specs.Body.{most_bytes};
-ghost use Rattle.usebin_cli.specs.Reading.{reading, Exceeds};
-ghost use Rattle.usebin_cli.specs.Run.{Wrote, InputFailed, IsErrorText};
+ghost use Rattle.usebin_cli.specs.Reading.{reading};
+ghost use Rattle.usebin_cli.specs.Run.{Wrote, InputFailed, IsErrorText, IsOverLimit, AsksOfBody, AsksOfNoBody};
 ghost use Rattle.usebin_cli.specs.Writing.{written, Got, IsUntouched, WroteFront, WroteWhole};
 
+use crate::decode::{DecodeEnd, decode};
 use crate::encode::{EncodeEnd, encode};
+use crate::statuses::{
+    input_fault, no_body, no_memory, output_fault, over_limit, short, text_too_long, words_refused,
+};
 use crate::words::{Command, read_words};
-use crate::writing::{say, say_numbered};
 use std::alloc::Global;
 use ub_base::{Input, Links, Sink, Store};
 
@@ -24,7 +26,7 @@ use ub_base::{Input, Links, Sink, Store};
 /// | 2 | exactly where the words are refused |
 /// | 3 | only where the count of faults of `input` rose |
 /// | 4 | only where the count of faults of `out` rose |
-/// | 6 | exactly where a read gave no byte below the file's length, or the file is too long |
+/// | 6 | exactly where a read gave no byte below the file's length, or the file or its asked part goes past a limit |
 /// | 7 | want of memory, at any moment after the words are read |
 #[allow(clippy::too_many_arguments)]
 pub fn usebin<I: Input, T: Store, L: Links, O: Sink, E: Sink>(
@@ -55,11 +57,13 @@ pub fn usebin<I: Input, T: Store, L: Links, O: Sink, E: Sink>(
         (reading I.faults I.shorts I.short_place I.current I.blame input.old input.new) (written O.faults O.told out.old out.new) }
     ensures output_count { O.faults out.old < O.faults out.new → (result ≡ 4) ⊎ (result ≡ 7) }
 
-    // 6: exactly where a read gave no byte below the file's length, or the file is too long. Refused words open no file, so
-    // that the input may still have a long one from before.
-    ensures input_refused { result ≡ 6 → Rose (I.shorts input.old) (I.shorts input.new) ⊎ Exceeds most_bytes (I.current input.new) }
+    // 6: exactly where a read gave no byte below the file's length, the file or what is asked of it goes past a limit, or
+    // what is to be decoded is no body.
+    ensures input_refused { result ≡ 6 → Rose (I.shorts input.old) (I.shorts input.new) ⊎ (IsOverLimit (words_of (map string_bytes words.now)) (I.current input.new)
+        ⊎ AsksOfNoBody (words_of (map string_bytes words.now)) (I.files input.old) (I.current input.new)) }
+    ensures body { AsksOfBody (words_of (map string_bytes words.now)) (I.files input.old) (I.current input.new) → result ≡ 6 → Rose (I.shorts input.old) (I.shorts input.new) }
     ensures short { I.shorts input.old < I.shorts input.new → (result ≡ 6) ⊎ (result ≡ 7) }
-    ensures too_long { Exceeds most_bytes (I.current input.new) → (result ≡ 6) ⊎ (result ≡ 2) }
+    ensures over_limit { IsOverLimit (words_of (map string_bytes words.now)) (I.current input.new) → result ≡ 6 }
 
     // No other status is answered, and but for 0 and 4 nothing is written to `out`.
     ensures statuses { (result ≡ 0) ⊎ ((result ≡ 2) ⊎ ((result ≡ 3) ⊎ ((result ≡ 4) ⊎ ((result ≡ 6) ⊎ (result ≡ 7))))) }
@@ -70,36 +74,29 @@ pub fn usebin<I: Input, T: Store, L: Links, O: Sink, E: Sink>(
     ensures links { links.new ≡ links.old }
 
     // `err` has got the line of the status, or a front of it where a write to `err` failed, which changes no status.
-    ensures error_text { (text : List ℕ) × IsErrorText (words_of (map string_bytes words.now)) (reading I.faults I.shorts I.short_place I.current I.blame input.old input.new) result text
+    ensures error_text { (text : List ℕ) × IsErrorText (words_of (map string_bytes words.now)) (I.files input.old) (reading I.faults I.shorts I.short_place I.current I.blame input.old input.new) result text
         × Got text (written E.faults E.told err.old err.new) }
 {
     match read_words(words) {
-        Err(number) => {
-            say_numbered(err, b"usebin: words ", number);
-            2
-        }
-        Ok(Command::Encode(asked)) => match encode(alloc, asked.path, asked.name, input, out) {
+        Err(number) => words_refused(number, err),
+        Ok(Command::Encode(asked)) => match encode(alloc, asked, input, out) {
             EncodeEnd::Done => 0,
-            EncodeEnd::InputFault => {
-                say(err, b"usebin: input fault\n");
-                3
-            }
-            EncodeEnd::OutputFault => {
-                say(err, b"usebin: output fault\n");
-                4
-            }
-            EncodeEnd::Short(place) => {
-                say_numbered(err, b"usebin: short ", place);
-                6
-            }
-            EncodeEnd::FileLimit => {
-                say(err, b"usebin: limit file 16777216\n");
-                6
-            }
-            EncodeEnd::Memory => {
-                say(err, b"usebin: no memory\n");
-                7
-            }
+            EncodeEnd::Memory => no_memory(err),
+            EncodeEnd::InputFault => input_fault(err),
+            EncodeEnd::Short(place) => short(place, err),
+            EncodeEnd::Limit(limit) => over_limit(limit, err),
+            EncodeEnd::OutputFault => output_fault(err),
+        },
+        Ok(Command::Decode(path)) => match decode(alloc, path, input, out, err) {
+            DecodeEnd::Done(_) => 0,
+            DecodeEnd::Memory => no_memory(err),
+            DecodeEnd::InputFault => input_fault(err),
+            DecodeEnd::Short(place) => short(place, err),
+            DecodeEnd::TextLimit => text_too_long(err),
+            DecodeEnd::Refused(fault) => no_body(&fault, err),
+            DecodeEnd::OutputFault(true) => output_fault(err),
+            // A write to `err` failed before, and nothing more is written to it.
+            DecodeEnd::OutputFault(false) => 4,
         },
     }
 }

@@ -1,16 +1,28 @@
 // The words of the command line, read by hand: a repeated key and a missing value have answers of their own.
-ghost use Rattle.std.specs.Prelude.{◌≡◌, ◌≤◌, ◌<◌, ◌+◌, ℕ, List, codes, true, false, is_some, length, drop, map, string_bytes, IfOk, OnOk};
-ghost use Rattle.std.specs.List.{list_all};
-ghost use Rattle.usebin_cli.specs.CommandLine.{encode_of, file_name as file_name_of, is_header_name, is_printable, refused_number, value_of, words_of};
-ghost use Rattle.usebin_cli.specs.Asked.{ReadsCommand, ReadsEncode, ReadsPair};
+ghost use Rattle.std.specs.Prelude.{◌≡◌, true, codes, map, string_bytes, IfOk};
+ghost use Rattle.std.specs.Option.{unwrap_or};
+ghost use Rattle.usebin_cli.specs.CommandLine.{decode_of, encode_keys, encode_of, refused_number, words_of};
+ghost use Rattle.usebin_cli.specs.Keys.{file_name as file_name_of, is_header_name, value_of};
+ghost use Rattle.usebin_cli.specs.Asked.{IsAllowed, IsEncodeAllowed, ReadsCommand, ReadsDecode, ReadsEncode, key_model, paired};
 
+use crate::keys::{Key, Rule, check_pairs, file_name, has_key, number_or, value_in};
 use yenc_lines::Name;
+
+// How many characters a data line has before it is full.
+const LEAST_LINE: u32 = 64;
+
+const MOST_LINE: u32 = 997;
+
+// How many bytes a part has.
+const MOST_PART_SIZE: u32 = 16_777_216;
 
 /// What the words ask for.
 #[derive(Drop)]
 pub(crate) enum Command<'a> {
-    /// The body of a file.
+    /// The body of a part of a file.
     Encode(EncodeWords<'a>),
+    /// The bytes of the saved body at a path.
+    Decode(&'a str),
 }
 
 /// What `encode` is asked for.
@@ -20,21 +32,32 @@ pub(crate) struct EncodeWords<'a> {
     pub(crate) path: &'a str,
     /// The name in the header.
     pub(crate) name: Name,
+    /// How many characters a data line has before it is full, 64 to 997.
+    pub(crate) line: u16,
+    /// How many bytes the parts have, 1 to 16,777,216; the last one may have fewer.
+    pub(crate) part_size: u32,
+    /// The number of the part, from 1.
+    pub(crate) part: u32,
 }
 
 /// What the words ask for, or the number of the first word that is refused, counted from 1.
 pub(crate) fn read_words(words: &[String]) -> Result<Command<'_>, u64>
-    ensures { ReadsCommand (words_of (map string_bytes words.now)) result }
+    ensures words { ReadsCommand (words_of (map string_bytes words.now)) result }
+    ensures allowed { IfOk result IsAllowed }
 {
     let [command, rest @ ..] = words else {
         return Err(1);
     };
-    if command.as_str() != "encode" {
-        return Err(1);
-    }
-    match read_encode(rest) {
-        Ok(asked) => Ok(Command::Encode(asked)),
-        Err(number) => Err(number),
+    match command.as_str() {
+        "encode" => match read_encode(rest) {
+            Ok(asked) => Ok(Command::Encode(asked)),
+            Err(number) => Err(number),
+        },
+        "decode" => match read_decode(rest) {
+            Ok(path) => Ok(Command::Decode(path)),
+            Err(number) => Err(number),
+        },
+        _ => Err(1),
     }
 }
 
@@ -49,86 +72,103 @@ pub fn refused_word(words: &[String]) -> Option<u64>
     }
 }
 
+// The keys of `encode`, where a name is given or isn't.
+fn encode_keys(is_named: bool) -> [Key; 5]
+    ensures { map key_model result ≡ encode_keys is_named }
+{
+    let path = if is_named {
+        Rule::Path
+    } else {
+        Rule::NamedPath
+    };
+    [
+        Key {
+            word: "--input",
+            rule: path,
+        },
+        Key {
+            word: "--name",
+            rule: Rule::HeaderName,
+        },
+        Key {
+            word: "--line",
+            rule: Rule::Number {
+                least: LEAST_LINE,
+                most: MOST_LINE,
+            },
+        },
+        Key {
+            word: "--part-size",
+            rule: Rule::Number {
+                least: 1,
+                most: MOST_PART_SIZE,
+            },
+        },
+        Key {
+            word: "--part",
+            rule: Rule::Number {
+                least: 1,
+                most: u32::MAX,
+            },
+        },
+    ]
+}
+
 // What the words behind `encode` ask for.
 fn read_encode(words: &[String]) -> Result<EncodeWords<'_>, u64>
-    ensures { ReadsEncode (encode_of (map string_bytes words.now)) result }
+    ensures words { ReadsEncode (encode_of (map string_bytes words.now)) result }
+    ensures allowed { IfOk result IsEncodeAllowed }
 {
-    let mut input: Option<&str> = None;
-    let mut at = 0;
-    while at < words.len() {
-        match read_input(words, at, input.is_some()) {
-            Ok(path) => input = Some(path),
-            Err(number) => return Err(number),
-        }
-        at += 2;
+    let keys = encode_keys(has_key(words, "--name"));
+    if let Err(number) = check_pairs(&keys, words) {
+        return Err(number);
     }
-    let Some(path) = input else {
-        return Err(at as u64 + 2);
+    let Some(path) = value_in(words, "--input") else {
+        return Err(words.len() as u64 + 2);
     };
-    match Name::new(file_name(path.as_bytes())) {
-        Some(name) => Ok(EncodeWords { path, name }),
+    Ok(EncodeWords {
+        path,
+        name: header_name(words, path),
+        line: number_or(words, "--line", LEAST_LINE, MOST_LINE, 128) as u16,
+        part_size: number_or(words, "--part-size", 1, MOST_PART_SIZE, MOST_PART_SIZE),
+        part: number_or(words, "--part", 1, u32::MAX, 1),
+    })
+}
+
+// The name for the header.
+fn header_name(words: &[String], path: &str) -> Name
+    requires { is_header_name (unwrap_or (value_of (codes "--name") (paired (map string_bytes words.now))) (file_name_of path.now)) ≡ true }
+    ensures { result ≡ unwrap_or (value_of (codes "--name") (paired (map string_bytes words.now))) (file_name_of path.now) }
+{
+    match Name::new(name_given(words, path)) {
+        Some(name) => name,
         None => unreachable!(),
     }
 }
 
-// The path in the pair at an index of the words behind `encode`, of which the first is the second word of all.
-fn read_input(words: &[String], at: usize, has_input: bool) -> Result<&str, u64>
-    requires { at < length words.now }
-    ensures pair { (pairs : List (List ℕ × List ℕ)) → is_some (value_of (codes "--input") pairs) ≡ has_input
-        → ReadsPair pairs (at + 2) (drop at (map string_bytes words.now)) (drop (at + 2) (map string_bytes words.now)) result }
-    ensures first { OnOk result (has_input ≡ false) }
-    ensures inside { OnOk result (at + 2 ≤ length words.now) }
-    ensures name { IfOk result (λ path. is_header_name (file_name_of path.now) ≡ true) }
+// The name that is given, or that of the file.
+fn name_given<'a>(words: &'a [String], path: &'a str) -> &'a [u8]
+    ensures { result.now ≡ unwrap_or (value_of (codes "--name") (paired (map string_bytes words.now))) (file_name_of path.now) }
 {
-    let number = at as u64 + 2;
-    let key = words[at].as_str();
-    if key != "--input" {
+    match value_in(words, "--name") {
+        Some(name) => name.as_bytes(),
+        None => file_name(path.as_bytes()),
+    }
+}
+
+// The path in the words behind `decode`.
+fn read_decode(words: &[String]) -> Result<&str, u64>
+    ensures { ReadsDecode (decode_of (map string_bytes words.now)) result }
+{
+    let keys = [Key {
+        word: "--input",
+        rule: Rule::Path,
+    }];
+    if let Err(number) = check_pairs(&keys, words) {
         return Err(number);
     }
-    if has_input {
-        return Err(number);
+    match value_in(words, "--input") {
+        Some(path) => Ok(path),
+        None => Err(words.len() as u64 + 2),
     }
-    if at + 1 == words.len() {
-        return Err(number + 1);
-    }
-    let value = words[at + 1].as_str();
-    if is_header_name(file_name(value.as_bytes())) {
-        Ok(value)
-    } else {
-        Err(number + 1)
-    }
-}
-
-// The bytes behind the last slash.
-fn file_name(path: &[u8]) -> &[u8]
-    ensures { result.now ≡ file_name_of path.now }
-{
-    let mut name = path;
-    let mut rest = path;
-    while let [byte, after @ ..] = rest {
-        if *byte == b'/' {
-            name = after;
-        }
-        rest = after;
-    }
-    name
-}
-
-// Whether a header can carry these bytes as a name that was given on the command line.
-fn is_header_name(name: &[u8]) -> bool
-    ensures { result ≡ is_header_name name.now }
-{
-    if name.is_empty() || name.len() > 255 {
-        return false;
-    }
-    if name[0] == b' ' || name[name.len() - 1] == b' ' {
-        return false;
-    }
-    all_printable(name)
-}
-
-fn all_printable(name: &[u8]) -> bool
-    ensures { result ≡ list_all is_printable name.now }
-{
-    name.iter().all(|byte| (32..=126).contains(byte))
 }

@@ -4,6 +4,7 @@ ghost use Rattle.std.specs.Prelude.{None};
 use std::alloc::Global;
 use std::test::Fail;
 use ub_base::{Bytes, Failed, Input, Lines, List, MemInput, MemSink};
+use usebin_cli::{NoLinks, NoStore, usebin};
 
 /// A list of these bytes.
 pub(crate) fn bytes_of(alloc: Global, text: &[u8]) -> Result<Bytes, Fail> {
@@ -48,6 +49,48 @@ pub(crate) fn words_of(alloc: Global, words: &[&str]) -> Result<Vec<String>, Fai
         list.push(String::from_str(alloc, word)?)?;
     }
     Ok(list)
+}
+
+/// What a run of the top call answered and wrote.
+#[derive(Drop)]
+pub(crate) struct Ran {
+    pub(crate) status: u8,
+    pub(crate) out: MemSink,
+    pub(crate) err: MemSink,
+}
+
+/// Runs the top call. The writes of these numbers to the output fail.
+pub(crate) fn run<I: Input>(
+    alloc: Global,
+    words: &[&str],
+    input: &mut I,
+    failing: &[u64],
+) -> Result<Ran, Fail> {
+    run_failing(alloc, words, input, failing, &[])
+}
+
+/// The same where writes to the sink for errors fail too.
+pub(crate) fn run_failing<I: Input>(
+    alloc: Global,
+    words: &[&str],
+    input: &mut I,
+    failing: &[u64],
+    failing_errors: &[u64],
+) -> Result<Ran, Fail> {
+    let words = words_of(alloc, words)?;
+    let mut out = sink_failing(alloc, failing)?;
+    let mut err = sink_failing(alloc, failing_errors)?;
+    let status = usebin(
+        alloc,
+        &words,
+        input,
+        &mut NoStore::new(),
+        &mut NoLinks::new(),
+        &mut out,
+        &mut err,
+        0,
+    );
+    Ok(Ran { status, out, err })
 }
 
 /// A file that has fewer bytes than its opening says.
@@ -96,6 +139,60 @@ impl Input for ShrunkInput {
         if pos < self.has {
             buf[0] = b'x';
             return Ok(1);
+        }
+        self.shorts = self.shorts.saturating_add(1);
+        self.short_place = pos;
+        Ok(0)
+    }
+}
+
+/// A file of a great length, of which bytes can be read at some places alone: a read elsewhere gives none.
+#[derive(Drop)]
+pub(crate) struct SparseInput {
+    size: u64,
+    from: u64,
+    to: u64,
+    open_len: Option<u64>,
+    shorts: u64,
+    short_place: u64,
+}
+
+impl SparseInput {
+    pub(crate) fn new(size: u64, from: u64, to: u64) -> Self {
+        SparseInput {
+            size,
+            from,
+            to,
+            open_len: None,
+            shorts: 0,
+            short_place: 0,
+        }
+    }
+}
+
+impl Input for SparseInput {
+    ghost faults = { λ s. 0 };
+
+    ghost shorts = { λ s. s.shorts };
+
+    ghost short_place = { λ s. s.short_place };
+
+    ghost current = { λ s. s.open_len };
+
+    ghost content = { λ s. None };
+
+    ghost files = { λ s. None };
+
+    ghost blame = { λ s. None };
+
+    fn open(&mut self, _name: &str) -> Result<u64, Failed> {
+        self.open_len = Some(self.size);
+        Ok(self.size)
+    }
+
+    fn read_at(&mut self, pos: u64, buf: &mut [u8]) -> Result<usize, Failed> {
+        if self.from <= pos && pos < self.to {
+            return Ok(buf.len().min((self.to - pos) as usize));
         }
         self.shorts = self.shorts.saturating_add(1);
         self.short_place = pos;

@@ -2,7 +2,11 @@
 #![tactic(auto)]
 
 #[cfg(test)]
+mod blocks;
+#[cfg(test)]
 mod bodies;
+#[cfg(test)]
+mod decode;
 #[cfg(test)]
 mod decoding;
 #[cfg(test)]
@@ -12,6 +16,12 @@ mod fixtures;
 #[cfg(test)]
 mod lists;
 #[cfg(test)]
+mod reading;
+#[cfg(test)]
+mod replies;
+#[cfg(test)]
 mod spellings;
 #[cfg(test)]
 mod system;
+#[cfg(test)]
+mod words;

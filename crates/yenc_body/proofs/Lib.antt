@@ -1,7 +1,10 @@
 pub mod BodyLaws
+pub mod BodyReads
 pub mod BodyRows
+pub mod DataFilling
 pub mod DataLaws
 pub mod LineLaws
 pub mod ReadsBack
 pub mod Rows
+pub mod StepReading
 pub mod TextLines

@@ -9,5 +9,6 @@ pub mod Body
 pub mod BodyReading
 pub mod Canonical
 pub mod FirstFault
+pub mod ReadBody
 pub mod Text
 pub mod WrittenBody

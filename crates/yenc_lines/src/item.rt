@@ -23,29 +23,12 @@ pub(crate) fn first_at(text: &[u8], byte: u8) -> usize
     text.len()
 }
 
-// The key as it stands in a line.
-fn name_of(key: Key) -> &'static [u8]
-    ensures { result.now ≡ key_name key }
-{
-    match key {
-        Key::Part => b"part",
-        Key::Total => b"total",
-        Key::Line => b"line",
-        Key::Size => b"size",
-        Key::Name => b"name",
-        Key::Begin => b"begin",
-        Key::End => b"end",
-        Key::Pcrc32 => b"pcrc32",
-        Key::Crc32 => b"crc32",
-    }
-}
-
 // The known key that is written so.
 fn key_of(known: &[Key], name: &[u8]) -> Option<Key>
     ensures { result ≡ find (λ k. bytes_eq (key_name k) name.now) known.now }
 {
     for key in known {
-        if name_of(*key) == name {
+        if key.as_bytes() == name {
             return Some(*key);
         }
     }

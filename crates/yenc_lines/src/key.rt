@@ -1,4 +1,6 @@
 // The keys of items, and what is wrong with a keyword line.
+ghost use Rattle.std.specs.Prelude.{◌≡◌};
+ghost use Rattle.yenc_lines.specs.Keywords.{key_name};
 
 /// The key of an item in a keyword line (yEnc draft 1.3, "Headers and Trailers" and "Multi-part Encoded Binaries").
 #[derive(Clone, Copy, Debug, PartialEq, Eq)]
@@ -21,6 +23,25 @@ pub enum Key {
     Pcrc32,
     /// `crc32`, the CRC-32 of the file.
     Crc32,
+}
+
+impl Key {
+    /// The key as it stands in a line.
+    pub fn as_bytes(self) -> &'static [u8]
+        ensures { result.now ≡ key_name self }
+    {
+        match self {
+            Key::Part => b"part",
+            Key::Total => b"total",
+            Key::Line => b"line",
+            Key::Size => b"size",
+            Key::Name => b"name",
+            Key::Begin => b"begin",
+            Key::End => b"end",
+            Key::Pcrc32 => b"pcrc32",
+            Key::Crc32 => b"crc32",
+        }
+    }
 }
 
 /// Why a line can't be read as a keyword line of its kind: of its items the first that fails, from left to right, and

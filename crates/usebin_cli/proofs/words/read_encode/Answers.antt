@@ -1,18 +1,23 @@
-use Rattle.std.proofs.Common.{◌≡◌, ◌∙◌, IfSome, Option, List, ℕ, true, false, sym, ap, subst, arith, string_bytes}
+use Rattle.std.proofs.Common.{◌∙◌, ◌+◌, ap, map, string_bytes}
 use Rattle.std.proofs.lemmas.List.{length-map}
-use Rattle.std.specs.Option.{option_copied}
-use Rattle.usebin_cli.specs.CommandLine.{file_name, is_header_name}
-use Rattle.usebin_cli.proofs.WordsLemmas.{name_of_header, one_more, same_presence}
+use Rattle.usebin_cli.specs.Asked.{paired}
+use Rattle.usebin_cli.specs.CommandLine.Words.{Refused}
+use Rattle.usebin_cli.proofs.WordsLemmas.{asked_is, encode_asks, encode_lacks, encode_refused, header_name_of}
 use Rattle.usebin_cli.proofs.words.read_encode.Goals as goal
 
-pub loop-at-preserved : goal.loop-at-preserved
-loop-at-preserved c =
-    one_more _ c.loop-at.at (option_copied c.loop-at.input) c.in-Ok.path.now c.loop-at.invariant (omega (arith, c.in-Ok.ensures.inside, length-map c.args.words.now string_bytes)) (same_presence c.loop-at.input ∙ sym c.is_some.ensures ∙ c.in-Ok.ensures.first) c.in-Ok.ensures.name
-    (λ pairs has. c.in-Ok.ensures.pair pairs (has ∙ same_presence c.loop-at.input ∙ sym c.is_some.ensures))
+pub returns-in-Err-clause-words : goal.returns-in-Err-clause-words
+returns-in-Err-clause-words c = encode_refused (map string_bytes c.args.words.now) _ c.has_key.result c.in-Err.number c.encode_keys-keys.ensures c.has_key.ensures c.in-Err.ensures
 
-pub unreachable-requires : goal.unreachable-requires
-unreachable-requires c =
-    let allowed = subst (λ (o : Option (List ℕ)). IfSome o (λ p. is_header_name (file_name p) ≡ true)) (ap option_copied c.in-Some.is) c.loop-at.invariant.allowed in
-    let name = ap is_header_name (c.file_name.ensures ∙ ap file_name c.as_bytes.ensures.value) ∙ allowed in
-    let no : false ≡ true = c.in-None.ensures.rule.1 (name_of_header _ name) in
-    cc
+pub returns-in_default-value_in-clause-words : goal.returns-in_default-value_in-clause-words
+returns-in_default-value_in-clause-words c =
+    encode_lacks (map string_bytes c.args.words.now) _ c.has_key.result c.encode_keys-keys.ensures c.has_key.ensures c.in_default.ensures c.in_default-value_in.ensures
+    ∙ ap (λ n. Refused (n + 2)) (length-map c.args.words.now string_bytes)
+
+pub header_name-requires : goal.header_name-requires
+header_name-requires c = header_name_of _ _ c.has_key.result c.in-Some.path.now c.encode_keys-keys.ensures c.has_key.ensures c.in_default.ensures c.in-Some.ensures
+
+pub returns-clause-words : goal.returns-clause-words
+returns-clause-words c =
+    let words = map string_bytes c.args.words.now in
+    encode_asks words _ c.has_key.result c.in-Some.path.now _ c.encode_keys-keys.ensures c.has_key.ensures c.in_default.ensures c.in-Some.ensures
+    (asked_is c.in-Some.path.now c.header_name.result c.number_or.result c.number_or-2.result c.number_or-3.result (paired words) c.header_name.ensures c.number_or.ensures.value c.number_or-2.ensures.value c.number_or-3.ensures.value)

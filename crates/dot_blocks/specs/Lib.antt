@@ -1,0 +1,4 @@
+pub mod Blocks
+pub mod BlockReading
+pub mod Heard
+pub mod Laws

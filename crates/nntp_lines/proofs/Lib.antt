@@ -1,0 +1,3 @@
+pub mod CommandLaws
+mod Rows
+pub mod StatusLaws

@@ -1,0 +1,6 @@
+pub mod Command
+pub mod GroupName
+pub mod LoginWord
+pub mod MessageId
+pub mod StatusLine
+pub mod Word

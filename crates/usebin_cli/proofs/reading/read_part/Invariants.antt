@@ -1,0 +1,17 @@
+use Rattle.std.proofs.Common.{◌≡◌, ◌≤◌, ◌-◌, length}
+use Rattle.usebin_cli.specs.Reading.{IsPiece}
+use Rattle.usebin_cli.proofs.reading.read_part.Given as goal
+
+abbrev pub invariant-loop-buffer : goal.invariant-loop-buffer
+invariant-loop-buffer g l = record {
+  most : length l.bytes ≤ l.len;
+  piece : IsPiece (g.I.Input.content l.initial.input) l.place l.bytes;
+  content : g.I.Input.content l.input ≡ g.I.Input.content l.initial.input;
+  current : g.I.Input.current l.input ≡ g.I.Input.current l.initial.input;
+  faults : g.I.Input.faults l.input ≡ g.I.Input.faults l.initial.input;
+  blame : g.I.Input.blame l.input ≡ g.I.Input.blame l.initial.input;
+  shorts : g.I.Input.shorts l.input ≡ g.I.Input.shorts l.initial.input;
+}
+
+abbrev pub decreases-loop-buffer : goal.decreases-loop-buffer
+decreases-loop-buffer g l = l.len - length l.bytes

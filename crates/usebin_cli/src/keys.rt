@@ -1,0 +1,182 @@
+// Pairs of a key and its value on the command line. A command's keys are a table; the words are judged by it from the left.
+ghost use Rattle.std.specs.Prelude.{◌≡◌, ◌≤◌, ◌<◌, IfSome, length, map, string_bytes};
+ghost use Rattle.std.specs.Option.{option_and_then, option_copied, option_map, unwrap_or};
+ghost use Rattle.std.specs.List.{list_all};
+ghost use Rattle.usebin_cli.specs.Keys.{file_name as file_name_of, is_header_name, is_printable, key_of, number_in, stands_as_key, value_of};
+ghost use Rattle.usebin_cli.specs.Asked.{key_model, paired, takes_by, ChecksPair, ChecksPairs};
+
+use ub_base::read_dec;
+
+/// Which values a key takes.
+#[derive(Clone, Copy, Debug, PartialEq, Eq)]
+pub(crate) enum Rule {
+    /// A path, not empty.
+    Path,
+    /// A path whose part behind the last slash can be the name in a header.
+    NamedPath,
+    /// 1 to 255 printable characters of ASCII, with no space at either end.
+    HeaderName,
+    /// A number in decimal digits, within these limits. Leading zeros may stand.
+    Number { least: u32, most: u32 },
+}
+
+/// A key that a command knows.
+#[derive(Clone, Copy, Debug)]
+pub(crate) struct Key {
+    /// The word, with its dashes.
+    pub(crate) word: &'static str,
+    /// The values that it takes.
+    pub(crate) rule: Rule,
+}
+
+/// Judges the words behind a command, of which the first is the second of all, by the command's keys. The number of the
+/// first refused word is the error; one behind the last word says that a value is missing.
+pub(crate) fn check_pairs(keys: &[Key], words: &[String]) -> Result<(), u64>
+    ensures { ChecksPairs (map key_model keys.now) (map string_bytes words.now) result }
+{
+    let mut at = 0;
+    while at < words.len() {
+        if let Err(number) = check_pair(keys, words, at) {
+            return Err(number);
+        }
+        at += 2;
+    }
+    Ok(())
+}
+
+// Judges the pair at an index, behind other pairs.
+fn check_pair(keys: &[Key], words: &[String], at: usize) -> Result<(), u64>
+    requires { at < length words.now }
+    ensures { ChecksPair (map key_model keys.now) (map string_bytes words.now) at result }
+{
+    let number = at as u64 + 2;
+    let word = words[at].as_str();
+    let Some(key) = find_key(keys, word) else {
+        return Err(number);
+    };
+    if value_in(&words[..at], word).is_some() {
+        return Err(number);
+    }
+    if at + 1 == words.len() {
+        return Err(number + 1);
+    }
+    if !takes(key.rule, words[at + 1].as_str()) {
+        return Err(number + 1);
+    }
+    Ok(())
+}
+
+// The key that a word is.
+fn find_key(keys: &[Key], word: &str) -> Option<Key>
+    ensures { option_map key_model result ≡ key_of (map key_model keys.now) word.now }
+{
+    for key in keys {
+        if word == key.word {
+            return Some(*key);
+        }
+    }
+    None
+}
+
+// Whether a value keeps to a rule.
+fn takes(rule: Rule, value: &str) -> bool
+    ensures { result ≡ takes_by rule value.now }
+{
+    match rule {
+        Rule::Path => !value.is_empty(),
+        Rule::NamedPath => is_header_name(file_name(value.as_bytes())),
+        Rule::HeaderName => is_header_name(value.as_bytes()),
+        Rule::Number { least, most } => number_in(value, least, most).is_some(),
+    }
+}
+
+/// The value of a key in the pairs that these words are.
+pub(crate) fn value_in<'a>(words: &'a [String], key: &str) -> Option<&'a str>
+    ensures { option_copied result ≡ value_of key.now (paired (map string_bytes words.now)) }
+{
+    let mut at = 0;
+    while at + 1 < words.len() {
+        if key == words[at].as_str() {
+            return Some(words[at + 1].as_str());
+        }
+        at += 2;
+    }
+    None
+}
+
+/// The number that is the value of a key in the pairs that these words are, or the default where it has none in the limits.
+pub(crate) fn number_or(words: &[String], key: &str, least: u32, most: u32, default: u32) -> u32
+    requires least { least ≤ default }
+    requires most { default ≤ most }
+    ensures least { least ≤ result }
+    ensures most { result ≤ most }
+    ensures value { result ≡ unwrap_or (option_and_then (number_in least most) (value_of key.now (paired (map string_bytes words.now)))) default }
+{
+    match value_in(words, key) {
+        Some(value) => match number_in(value, least, most) {
+            Some(number) => number,
+            None => default,
+        },
+        None => default,
+    }
+}
+
+// The number that a value is, within limits.
+fn number_in(value: &str, least: u32, most: u32) -> Option<u32>
+    ensures value { result ≡ number_in least most value.now }
+    ensures least { IfSome result (λ number. least ≤ number) }
+    ensures most { IfSome result (λ number. number ≤ most) }
+{
+    match read_dec(value.as_bytes(), u64::from(most)) {
+        Some(number) if number >= u64::from(least) => Some(number as u32),
+        _ => None,
+    }
+}
+
+/// Whether a word stands where a key stands.
+pub(crate) fn has_key(words: &[String], key: &str) -> bool
+    ensures { result ≡ stands_as_key key.now (map string_bytes words.now) }
+{
+    let mut at = 0;
+    while at < words.len() {
+        if key == words[at].as_str() {
+            return true;
+        }
+        at += 2;
+    }
+    false
+}
+
+/// The bytes behind the last slash.
+pub(crate) fn file_name(path: &[u8]) -> &[u8]
+    ensures { result.now ≡ file_name_of path.now }
+{
+    let mut name = path;
+    let mut rest = path;
+    while let [byte, after @ ..] = rest {
+        if *byte == b'/' {
+            name = after;
+        }
+        rest = after;
+    }
+    name
+}
+
+// Whether a header can carry these bytes as a name that was given on the command line.
+fn is_header_name(name: &[u8]) -> bool
+    ensures { result ≡ is_header_name name.now }
+{
+    if name.is_empty() || name.len() > 255 {
+        return false;
+    }
+    if name[0] == b' ' || name[name.len() - 1] == b' ' {
+        return false;
+    }
+    all_printable(name)
+}
+
+fn all_printable(name: &[u8]) -> bool
+    ensures { result ≡ list_all is_printable name.now }
+{
+    name.iter().all(|byte| (32..=126).contains(byte))
+}

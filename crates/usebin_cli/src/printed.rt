@@ -1,0 +1,145 @@
+// The lines that `decode` prints on standard error.
+ghost use Rattle.std.specs.Prelude.{◌≡◌, ◌≤◌, ◌+◌, ◌++◌, length, take, codes};
+ghost use Rattle.std.specs.Fmt.{decimal};
+ghost use Rattle.crc_field.specs.Hex.{hex_digits};
+ghost use Rattle.yenc_lines.specs.Keywords.{key_name};
+ghost use Rattle.usebin_cli.specs.Printed.{fault_line, key_fault_text, range_line, reason_text, with_value, with_values};
+
+use crc_field::write_hex;
+use ub_base::write_dec;
+use yenc_body::{Fault, Part, Reason};
+use yenc_lines::{Key, KeyFault};
+
+/// A buffer for one line.
+pub(crate) type LineBuffer = [u8; 160];
+
+/// Writes the line of a fault to the front of a buffer, and answers its length.
+#[tactic(auto, unfolding(crate::specs::Printed::fault_line))]
+pub(crate) fn write_fault(fault: &Fault, out: &mut LineBuffer) -> usize
+    ensures text { take result out.new ≡ fault_line fault.now }
+    ensures room { result ≤ 160 }
+{
+    let at = put(out, 0, b"usebin: line ");
+    let at = put_number(out, at, fault.line);
+    let at = put(out, at, b" column ");
+    let at = put_number(out, at, fault.column);
+    let at = put(out, at, b" ");
+    let at = put_reason(out, at, fault.reason);
+    put(out, at, b"\n")
+}
+
+/// Writes the line of a part's range to the front of a buffer, and answers its length.
+#[tactic(auto, unfolding(crate::specs::Printed::range_line))]
+pub(crate) fn write_range(part: &Part, out: &mut LineBuffer) -> usize
+    ensures text { take result out.new ≡ range_line part.now }
+    ensures room { result ≤ 160 }
+{
+    let at = put(out, 0, b"range ");
+    let at = put_number(out, at, part.first);
+    let at = put(out, at, b"-");
+    let at = put_number(out, at, part.last);
+    let at = put(out, at, b" of ");
+    let at = put_number(out, at, part.begin.size);
+    put(out, at, b"\n")
+}
+
+// Puts a text behind the first `at` bytes, and answers where it ends.
+fn put(out: &mut LineBuffer, at: usize, text: &[u8]) -> usize
+    requires { at + length text.now ≤ 160 }
+    ensures text { take result out.new ≡ take at out.old ++ text.now }
+    ensures end { result ≡ at + length text.now }
+{
+    let end = at + text.len();
+    out[at..end].copy_from_slice(text);
+    end
+}
+
+fn put_number(out: &mut LineBuffer, at: usize, value: u64) -> usize
+    requires { at + 20 ≤ 160 }
+    ensures text { take result out.new ≡ take at out.old ++ decimal value }
+    ensures end { result ≤ at + 20 }
+{
+    let mut digits = [0; 20];
+    let len = write_dec(value, &mut digits);
+    put(out, at, &digits[..len])
+}
+
+// Puts a reason's name and its values.
+fn put_reason(out: &mut LineBuffer, at: usize, reason: Reason) -> usize
+    requires { at + 64 ≤ 160 }
+    ensures text { take result out.new ≡ take at out.old ++ reason_text reason }
+    ensures end { result ≤ at + 64 }
+{
+    match reason {
+        Reason::NoBegin => put(out, at, b"NoBegin"),
+        Reason::BadBegin(fault) => put_keyword(out, at, b"BadBegin", fault),
+        Reason::PartRange => put(out, at, b"PartRange"),
+        Reason::NoPart => put(out, at, b"NoPart"),
+        Reason::BadPart(fault) => put_keyword(out, at, b"BadPart", fault),
+        Reason::Stray => put(out, at, b"Stray"),
+        Reason::LoneEscape => put(out, at, b"LoneEscape"),
+        Reason::TooMany => put(out, at, b"TooMany"),
+        Reason::Keyword => put(out, at, b"Keyword"),
+        Reason::KeywordTooLong => put(out, at, b"KeywordTooLong"),
+        Reason::NoEnd => put(out, at, b"NoEnd"),
+        Reason::BadEnd(fault) => put_keyword(out, at, b"BadEnd", fault),
+        Reason::EndPart(there, here) => {
+            put_numbers(out, at, b"EndPart", u64::from(there), u64::from(here))
+        }
+        Reason::EndSize(there, here) => put_numbers(out, at, b"EndSize", there, here),
+        Reason::TooFew(count, wanted) => put_numbers(out, at, b"TooFew", count, wanted),
+        Reason::CrcDiffers(said, crc) => put_crcs(out, at, said, crc),
+    }
+}
+
+// Puts a reason's name and what is wrong with a keyword line.
+fn put_keyword(out: &mut LineBuffer, at: usize, name: &[u8], fault: KeyFault) -> usize
+    requires { at + length name.now + 24 ≤ 160 }
+    ensures text { take result out.new ≡ take at out.old ++ with_value name.now (key_fault_text fault) }
+    ensures end { result ≤ at + length name.now + 24 }
+{
+    let at = put(out, at, name);
+    let at = put(out, at, b" ");
+    match fault {
+        KeyFault::NotIt => put(out, at, b"NotIt"),
+        KeyFault::NoItem(key) => put_key(out, at, b"NoItem ", key),
+        KeyFault::BadNumber(key) => put_key(out, at, b"BadNumber ", key),
+        KeyFault::Repeated(key) => put_key(out, at, b"Repeated ", key),
+        KeyFault::BadName => put(out, at, b"BadName"),
+    }
+}
+
+// Puts a text and a key.
+fn put_key(out: &mut LineBuffer, at: usize, text: &[u8], key: Key) -> usize
+    requires { at + length text.now + 6 ≤ 160 }
+    ensures text { take result out.new ≡ take at out.old ++ (text.now ++ key_name key) }
+    ensures end { result ≤ at + length text.now + 6 }
+{
+    let at = put(out, at, text);
+    put(out, at, key.as_bytes())
+}
+
+// Puts a reason's name and two numbers.
+fn put_numbers(out: &mut LineBuffer, at: usize, name: &[u8], first: u64, second: u64) -> usize
+    requires { at + length name.now + 42 ≤ 160 }
+    ensures text { take result out.new ≡ take at out.old ++ with_values name.now (decimal first) (decimal second) }
+    ensures end { result ≤ at + length name.now + 42 }
+{
+    let at = put(out, at, name);
+    let at = put(out, at, b" ");
+    let at = put_number(out, at, first);
+    let at = put(out, at, b" ");
+    put_number(out, at, second)
+}
+
+// Puts the CRCs that differ.
+fn put_crcs(out: &mut LineBuffer, at: usize, said: u32, crc: u32) -> usize
+    requires { at + 28 ≤ 160 }
+    ensures text { take result out.new ≡ take at out.old ++ with_values (codes "CrcDiffers") (hex_digits 8 said) (hex_digits 8 crc) }
+    ensures end { result ≡ at + 28 }
+{
+    let at = put(out, at, b"CrcDiffers ");
+    let at = put(out, at, &write_hex(said));
+    let at = put(out, at, b" ");
+    put(out, at, &write_hex(crc))
+}

@@ -1,0 +1,191 @@
+// Multi-line blocks: made, split, and framed in pieces.
+use crate::fixtures::are_lines;
+use dot_blocks::{BlockError, Frame, Framer, split_block, stuff};
+use std::test::Fail;
+use ub_base::Bytes;
+
+#[test]
+fn a_block_gives_its_lines_without_their_dots(rt: HostRuntime) -> Result<(), Fail> {
+    let rows: [(&[u8], &[&[u8]]); 7] = [
+        (b".\r\n", &[]),
+        (b"\r\n.\r\n", &[b""]),
+        (b"a\r\nbc\r\n.\r\n", &[b"a", b"bc"]),
+        (b".=yend\r\n.\r\n", &[b"=yend"]),
+        (b"..\r\n.\r\n", &[b"."]),
+        (b"...\r\n.\r\n", &[b".."]),
+        (b"a.\r\n..a\r\n.\r\n", &[b"a.", b".a"]),
+    ];
+    for (block, wanted) in rows {
+        match split_block(rt.alloc(), block) {
+            Ok(lines) => assert!(rt; are_lines(&lines, wanted)),
+            Err(error) => assert_eq!(rt; error, BlockError::Memory),
+        }
+    }
+    Ok(())
+}
+
+#[test]
+fn only_cr_and_lf_together_end_a_line(rt: HostRuntime) -> Result<(), Fail> {
+    let rows: [(&[u8], &[&[u8]]); 7] = [
+        (b"a\rb\nc\0\r\n.\r\n", &[b"a\rb\nc\0"]),
+        (b"a\n.\r\n.\r\n", &[b"a\n."]),
+        (b"\n.\n\r\n.\r\n", &[b"\n.\n"]),
+        (b"\r.\r\n.\r\n", &[b"\r."]),
+        (b"a\r\r\n.\r\n", &[b"a\r"]),
+        (b".\r\r\n.\r\n", &[b"\r"]),
+        (b".\n\r\n.\r\n", &[b"\n"]),
+    ];
+    for (block, wanted) in rows {
+        match split_block(rt.alloc(), block) {
+            Ok(lines) => assert!(rt; are_lines(&lines, wanted)),
+            Err(error) => assert_eq!(rt; error, BlockError::Memory),
+        }
+    }
+    Ok(())
+}
+
+#[test]
+fn bytes_without_the_ending_dot_are_unfinished(rt: HostRuntime) {
+    let rows: [&[u8]; 10] = [
+        b"",
+        b".",
+        b".\r",
+        b".\n",
+        b"a\r\n",
+        b"a\r\n.\r",
+        b"a.\r\n",
+        b"..\r\n",
+        b"\r.\r\n",
+        b"a\n.\r\n",
+    ];
+    for bytes in rows {
+        let result = split_block(rt.alloc(), bytes);
+        assert!(rt; matches!(result, Err(BlockError::Unfinished)));
+    }
+}
+
+#[test]
+fn bytes_behind_a_block_are_told(rt: HostRuntime) {
+    let rows: [(&[u8], usize); 4] = [
+        (b".\r\nx", 3),
+        (b".\r\n.\r\n", 3),
+        (b"a\r\n.\r\n\n", 6),
+        (b"..\r\n.\r\na\r\n.\r\n", 7),
+    ];
+    for (bytes, len) in rows {
+        match split_block(rt.alloc(), bytes) {
+            Err(BlockError::Rest(used)) => assert_eq!(rt; used, len),
+            _ => assert!(rt; false),
+        }
+    }
+}
+
+#[test]
+fn stuffed_lines_come_back(rt: HostRuntime) -> Result<(), Fail> {
+    let wanted: [&[u8]; 7] = [b"", b".", b"..a", b"a.", b"=yend", b"\rb\n", b"\0"];
+    // with dots that the last three lines don't need
+    let heard = b"\r\n..\r\n...a\r\na.\r\n.=yend\r\n.\rb\n\r\n.\0\r\n.\r\n".as_slice();
+    let block = b"\r\n..\r\n...a\r\na.\r\n=yend\r\n\rb\n\r\n\0\r\n.\r\n".as_slice();
+    let lines = match split_block(rt.alloc(), heard) {
+        Ok(lines) => lines,
+        Err(_) => return Err(Fail::from("split")),
+    };
+    assert!(rt; are_lines(&lines, &wanted));
+    let mut out = Bytes::new(rt.alloc());
+    out.extend(b"222 0\r\n")?;
+    stuff(&lines, &mut out)?;
+    let text = out.as_slice();
+    assert_eq!(rt; text.len(), 7 + block.len());
+    assert!(rt; text.starts_with(b"222 0\r\n"));
+    assert!(rt; text.ends_with(block));
+    match split_block(rt.alloc(), block) {
+        Ok(again) => assert!(rt; are_lines(&again, &wanted)),
+        Err(error) => assert_eq!(rt; error, BlockError::Memory),
+    }
+    Ok(())
+}
+
+// Appends what each line's end did, and how many bytes stand up to it.
+fn hear(
+    framer: &mut Framer,
+    before: usize,
+    piece: &[u8],
+    ends: &mut Vec<(usize, Frame)>,
+) -> Result<(), Fail> {
+    let mut rest = piece;
+    for _ in 0..8u32 {
+        let (used, frame) = framer.step(rest);
+        rest = &rest[used..];
+        if frame == Frame::More {
+            return Ok(());
+        }
+        let place = before.wrapping_add(piece.len()).wrapping_sub(rest.len());
+        ends.push((place, frame))?;
+    }
+    Ok(())
+}
+
+fn is_framed(framed: &[(usize, Frame)], wanted: &[(usize, Frame)]) -> bool {
+    if framed.len() != wanted.len() {
+        return false;
+    }
+    for i in 0..wanted.len() {
+        if framed[i].0 != wanted[i].0 || framed[i].1 != wanted[i].1 {
+            return false;
+        }
+    }
+    true
+}
+
+#[test]
+fn a_framer_gives_the_same_however_a_block_is_cut(rt: HostRuntime) -> Result<(), Fail> {
+    let rows: [(&[u8], &[(usize, Frame)]); 8] = [
+        // a lone CR before a dot
+        (b"a\r.\r\n.\r\n", &[(5, Frame::LineEnd), (8, Frame::End)]),
+        (b"\r\r.\r\n.\r\n", &[(5, Frame::LineEnd), (8, Frame::End)]),
+        // a dot and a lone CR, or a lone LF, on a line that isn't the last
+        (b".\ra\r\n.\r\n", &[(5, Frame::LineEnd), (8, Frame::End)]),
+        (
+            b".\r\r\n.\n\r\n.\r\n",
+            &[(4, Frame::LineEnd), (8, Frame::LineEnd), (11, Frame::End)],
+        ),
+        // a block without lines, and a line that is two dots
+        (b".\r\n", &[(3, Frame::End)]),
+        (b"..\r\n.\r\n", &[(4, Frame::LineEnd), (7, Frame::End)]),
+        // an empty line, and lines of one and three bytes
+        (
+            b"\r\na\r\nb.c\r\n.\r\n",
+            &[
+                (2, Frame::LineEnd),
+                (5, Frame::LineEnd),
+                (10, Frame::LineEnd),
+                (13, Frame::End),
+            ],
+        ),
+        // a block behind a block
+        (
+            b".\r\n\n\r\n.\r\n",
+            &[(3, Frame::End), (6, Frame::LineEnd), (9, Frame::End)],
+        ),
+    ];
+    for (block, wanted) in rows {
+        let mut framer = Framer::new();
+        let mut ends = Vec::new(rt.alloc());
+        hear(&mut framer, 0, block, &mut ends)?;
+        assert!(rt; is_framed(&ends, wanted));
+        for cut in 0..block.len() {
+            let mut framer = Framer::new();
+            let mut ends = Vec::new(rt.alloc());
+            hear(&mut framer, 0, &block[..cut], &mut ends)?;
+            hear(&mut framer, cut, &block[cut..], &mut ends)?;
+            assert!(rt; is_framed(&ends, wanted), "cut at {cut}");
+        }
+        let mut framer = Framer::new();
+        let mut ends = Vec::new(rt.alloc());
+        for i in 0..block.len() {
+            hear(&mut framer, i, &block[i..i + 1], &mut ends)?;
+        }
+        assert!(rt; is_framed(&ends, wanted), "cut after every byte");
+    }
+    Ok(())
+}

@@ -1,0 +1,59 @@
+#!/bin/sh
+# The built program's `decode` on what `encode` wrote, on damaged texts, and on bodies that uuenview made, another program's
+# encoder.
+set -u
+program=$PWD/crates/usebin/out/usebin
+folder=$(mktemp -d) || exit 1
+trap 'rm -rf "$folder"' EXIT
+cd "$folder" || exit 1
+status=0
+
+complain() {
+    echo "outside/decode: $1"
+    status=1
+}
+
+# back FILE LINE: the text in `saved` is decoded to FILE, and tells LINE
+back() {
+    "$program" decode --input saved >out 2>err
+    got=$?
+    [ "$got" -eq 0 ] || complain "status $got in place of 0: $1"
+    cmp -s out "$1" || complain "decoded to other bytes than $1"
+    [ "$(cat err)" = "$2" ] || complain "the line isn't '$2': $1"
+}
+
+# refused LINE: the text in `saved` is refused so, and nothing is written
+refused() {
+    "$program" decode --input saved >out 2>err
+    got=$?
+    [ "$got" -eq 6 ] || complain "status $got in place of 6: $1"
+    [ "$(head -n 1 err)" = "$1" ] || complain "the line isn't '$1'"
+    [ ! -s out ] || complain "bytes of a refused text: $1"
+}
+
+[ -x "$program" ] || { echo "outside/decode: skipped, the program isn't built"; exit 0; }
+
+head -c 300000 /dev/urandom >file
+: >empty
+"$program" encode --input file >saved && back file 'range 1-300000 of 300000'
+"$program" encode --input empty >saved && back empty 'range 1-0 of 0'
+"$program" encode --input file --part-size 50000 --part 4 >part
+tail -c 150000 file | head -c 50000 >fourth
+cp part saved && back fourth 'range 150001-200000 of 300000'
+sed '$d' part >saved && refused "usebin: line $(wc -l <part) column 1 NoEnd"
+sed 's/^=yend size=50000/=yend size=50001/' part >saved && refused "usebin: line $(wc -l <part) column 1 EndSize 50001 50000"
+printf 'hello\n' >saved && refused 'usebin: line 2 column 1 NoBegin'
+
+if command -v uuenview >/dev/null 2>&1; then
+    uuenview -y -1000 -o file >/dev/null 2>&1
+    : >whole
+    for body in file.0*; do
+        { printf 'From: a@example.org\nSubject: file\n\n'; cat "$body"; } >saved
+        "$program" decode --input saved >>whole 2>err || complain "a body of uuenview is refused: $(cat err)"
+    done
+    cmp -s whole file || complain "the bodies of uuenview give other bytes"
+    echo "outside/decode: bodies of uuenview read"
+else
+    echo "outside/decode: uuenview isn't installed, its bodies are skipped"
+fi
+exit $status
