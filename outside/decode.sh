@@ -44,6 +44,14 @@ sed '$d' part >saved && refused "usebin: line $(wc -l <part) column 1 NoEnd"
 sed 's/^=yend size=50000/=yend size=50001/' part >saved && refused "usebin: line $(wc -l <part) column 1 EndSize 50001 50000"
 printf 'hello\n' >saved && refused 'usebin: line 2 column 1 NoBegin'
 
+# off the wire: a status line, and the lines of the block with doubled dots
+{ printf '222 0 <a@b>\r\n'; LC_ALL=C sed 's/^\./../' part; printf '.\r\n'; } >reply
+"$program" decode --form wire --input reply >out 2>err || complain "a reply is refused: $(cat err)"
+cmp -s out fourth || complain "a reply gives other bytes"
+printf '430 none\r\n' >reply
+"$program" decode --form wire --input reply >out 2>err
+[ $? -eq 6 ] && [ "$(head -n 1 err)" = 'usebin: reply Code 430' ] || complain "another answer for a reply without a body"
+
 if command -v uuenview >/dev/null 2>&1; then
     uuenview -y -1000 -o file >/dev/null 2>&1
     : >whole

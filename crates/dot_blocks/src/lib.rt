@@ -14,5 +14,6 @@ pub use laws::{
     block_or_heard, each_block_is_read, no_block_begins_another, one_list_of_lines,
     stuffed_is_block,
 };
+pub use line_end::line_len;
 pub use split::{BlockError, split_block};
 pub use stuffing::stuff;

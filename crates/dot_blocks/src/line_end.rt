@@ -5,8 +5,8 @@ ghost use Rattle.dot_blocks.specs.Blocks.{HoldsNoLineEnd};
 
 use memchr::memchr;
 
-/// How many bytes stand before the first CRLF, where there is one.
-pub(crate) fn line_len(bytes: &[u8]) -> Option<usize>
+/// How many bytes stand before the first CRLF, where there is one (RFC 3977, section 3.1).
+pub fn line_len(bytes: &[u8]) -> Option<usize>
     ensures inside { IfSome result (λ len. len + 2 ≤ length bytes.now) }
     ensures before { IfSome result (λ len. HoldsNoLineEnd (take len bytes.now)) }
     ensures here { IfSome result (λ len. drop len bytes.now ≡ 13 ∷ 10 ∷ drop (len + 2) bytes.now) }

@@ -36,7 +36,7 @@ start, the last one shorter, and only the asked part is read.
 ";
 
 const DECODE: &str = "\
-usage: usebin decode --input FILE
+usage: usebin decode --input FILE [--form file|wire]
 
 Reads the yEnc body that was saved in FILE, and writes the bytes of the file, or of the part of it, to standard output.
 Their place in the file goes to standard error as a line `range A-B of S`: from the offset A to B, from 1, of S bytes.
@@ -44,6 +44,8 @@ Where FILE is no body, or shows damage, nothing is written to standard output, a
 
   --input FILE   the saved body, of at most 67108864 bytes. What stands before its header line and behind its trailer
                  line is passed over.
+  --form FORM    how it was saved: `file`, as lines, each ended by LF or CR LF, or `wire`, as a news server's reply to
+                 BODY came: its status line and the block behind it, with doubled dots. Without it `file`.
 ";
 
 const VERSION: &str = "usebin 0.1.0\n";

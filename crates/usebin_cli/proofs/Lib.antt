@@ -2,6 +2,7 @@ pub mod BodyLemmas
 pub mod KeysLemmas
 pub mod PartLemmas
 pub mod ReadingLemmas
+pub mod ReplyLemmas
 mod Rows
 pub mod RunLemmas
 pub mod TopLemmas

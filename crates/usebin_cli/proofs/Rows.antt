@@ -5,6 +5,7 @@ use Rattle.usebin_cli.specs.Body.{limit_of, part_length, part_place, parts_of}
 use Rattle.usebin_cli.specs.CommandLine.{words_of}
 use Rattle.usebin_cli.specs.CommandLine.Command.{Decode, Encode}
 use Rattle.usebin_cli.specs.CommandLine.Words.{Asks, Refused}
+use Rattle.usebin_cli.specs.declared.keys.Form.TheVariants as form
 use Rattle.usebin_cli.specs.declared.encode.Limit.TheVariants.{File, Part, Segments}
 
 -- ---- words
@@ -22,8 +23,14 @@ pub all_keys : words_of (codes "encode" ∷ codes "--part" ∷ codes "2" ∷ cod
     ≡ Asks (Encode (record { path = codes "d/"; name = codes "a b"; line = 64; part_size = 9; part = 2 }))
 all_keys = refl
 
-pub saved_body : words_of (codes "decode" ∷ codes "--input" ∷ codes "d/" ∷ []) ≡ Asks (Decode (codes "d/"))
+pub saved_body : words_of (codes "decode" ∷ codes "--input" ∷ codes "d/" ∷ []) ≡ Asks (Decode (record { path = codes "d/"; form = form.File }))
 saved_body = refl
+
+pub saved_reply : words_of (codes "decode" ∷ codes "--form" ∷ codes "wire" ∷ codes "--input" ∷ codes "r" ∷ []) ≡ Asks (Decode (record { path = codes "r"; form = form.Wire }))
+saved_reply = refl
+
+pub other_form : words_of (codes "decode" ∷ codes "--form" ∷ codes "Wire" ∷ []) ≡ Refused 3
+other_form = refl
 
 -- the required key is missing, its value is, and its value is no path
 pub no_input : words_of (codes "decode" ∷ []) ≡ Refused 2

@@ -1,15 +1,15 @@
 -- What a reading of the words answers.
 use Rattle.std.specs.Prelude.{◌≡◌, ◌+◌, ◌≤◌, ◌++◌, ◌∷◌, [], ℕ, Bool, List, drop, get_or, length, take, is_some, Result, Ok, Err}
-use Rattle.std.specs.Borrow.{Bor}
-use Rattle.usebin_cli.specs.CommandLine.{PartAsked, Words}
+use Rattle.usebin_cli.specs.CommandLine.{BodyAsked, PartAsked, Words}
 use Rattle.usebin_cli.specs.CommandLine.Words.{Asks, Refused}
 use Rattle.usebin_cli.specs.CommandLine.Command.{Decode, Encode}
-use Rattle.usebin_cli.specs.Keys.{Key, is_header_name, is_named_path, is_path, number_in, pairs_of}
+use Rattle.usebin_cli.specs.Keys.{Key, form_of, is_header_name, is_named_path, is_path, number_in, pairs_of}
 use Rattle.usebin_cli.specs.declared.keys.Key.{Key as TableKey}
 use Rattle.usebin_cli.specs.declared.keys.Rule.{Rule}
-use Rattle.usebin_cli.specs.declared.keys.Rule.TheVariants.{HeaderName, NamedPath, Number, Path}
+use Rattle.usebin_cli.specs.declared.keys.Rule.TheVariants.{Form, HeaderName, NamedPath, Number, Path}
 use Rattle.usebin_cli.specs.declared.words.Command.{Command}
 use Rattle.usebin_cli.specs.declared.words.Command.TheVariants as given
+use Rattle.usebin_cli.specs.declared.words.DecodeWords.{DecodeWords}
 use Rattle.usebin_cli.specs.declared.words.EncodeWords.{EncodeWords}
 
 -- ---- keys in a table
@@ -20,6 +20,7 @@ takes_by Path value = is_path value
 takes_by NamedPath value = is_named_path value
 takes_by HeaderName value = is_header_name value
 takes_by (Number least most) value = is_some (number_in least most value)
+takes_by Form value = is_some (form_of value)
 
 -- a key of a table
 abbrev pub key_model : TableKey → Key
@@ -52,7 +53,11 @@ ChecksPair keys words at (Err number) = pairs_of keys (at + 2) (paired (take at 
 abbrev pub asked_of : EncodeWords → PartAsked
 asked_of asked = record { path = asked.path.now; name = asked.name; line = asked.line; part_size = asked.part_size; part = asked.part }
 
--- its numbers are within their limits
+-- what `decode` was found to be asked for
+abbrev pub body_asked : DecodeWords → BodyAsked
+body_asked asked = record { path = asked.path.now; form = asked.form }
+
+-- the numbers of `encode` are within their limits
 pub record IsEncodeAllowed (asked : EncodeWords) : Type 0 where
   pub line_least : 64 ≤ asked.line
   pub line_most : asked.line ≤ 997
@@ -62,7 +67,7 @@ pub record IsEncodeAllowed (asked : EncodeWords) : Type 0 where
 
 abbrev pub IsAllowed : Command → Type 0
 IsAllowed (given.Encode asked) = IsEncodeAllowed asked
-IsAllowed (given.Decode path) = Unit {0}
+IsAllowed (given.Decode asked) = Unit {0}
 
 -- the words behind `encode` ask for what was answered, or the word of the answered number is the first that is refused
 abbrev pub ReadsEncode : Words → Result EncodeWords ℕ → Type 0
@@ -70,12 +75,12 @@ ReadsEncode words (Ok asked) = words ≡ Asks (Encode (asked_of asked))
 ReadsEncode words (Err number) = words ≡ Refused number
 
 -- the same of the words behind `decode`
-abbrev pub ReadsDecode : Words → Result (Bor (List ℕ)) ℕ → Type 0
-ReadsDecode words (Ok path) = words ≡ Asks (Decode path.now)
+abbrev pub ReadsDecode : Words → Result DecodeWords ℕ → Type 0
+ReadsDecode words (Ok asked) = words ≡ Asks (Decode (body_asked asked))
 ReadsDecode words (Err number) = words ≡ Refused number
 
 -- the same of all words
 abbrev pub ReadsCommand : Words → Result Command ℕ → Type 0
 ReadsCommand words (Ok (given.Encode asked)) = words ≡ Asks (Encode (asked_of asked))
-ReadsCommand words (Ok (given.Decode path)) = words ≡ Asks (Decode path.now)
+ReadsCommand words (Ok (given.Decode asked)) = words ≡ Asks (Decode (body_asked asked))
 ReadsCommand words (Err number) = words ≡ Refused number

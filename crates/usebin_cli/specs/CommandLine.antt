@@ -2,7 +2,9 @@
 use Rattle.std.specs.Prelude.{ℕ, ◌+◌, Bool, if◌then◌else◌, List, [], ◌∷◌, length, Result, Ok, Err, Option, Some, None, is_some, codes}
 use Rattle.std.specs.Str.{bytes_eq}
 use Rattle.std.specs.Option.{option_and_then, option_map, unwrap_or}
-use Rattle.usebin_cli.specs.Keys.{Key, file_name, is_header_name, is_named_path, is_path, number_in, pairs_of, stands_as_key, value_of}
+use Rattle.usebin_cli.specs.declared.keys.Form.{Form}
+use Rattle.usebin_cli.specs.declared.keys.Form.TheVariants.{File}
+use Rattle.usebin_cli.specs.Keys.{Key, file_name, form_of, is_header_name, is_named_path, is_path, number_in, pairs_of, stands_as_key, value_of}
 
 -- a part of a file that is to be encoded: the file's path, the name in the header, how many characters a data line has
 -- before it is full, how many bytes the parts have, and the part's number, from 1
@@ -13,10 +15,15 @@ pub record PartAsked : Type 0 where
   pub part_size : ℕ
   pub part : ℕ
 
--- what the words ask for: the body of a part of a file, or the bytes of the saved body at a path
+-- a body that is to be decoded: the path of the text, and how the body was saved in it
+pub record BodyAsked : Type 0 where
+  pub path : List ℕ
+  pub form : Form
+
+-- what the words ask for: the body of a part of a file, or the bytes of a saved body
 pub data Command : Type 0 where
   Encode : (asked : PartAsked) → Command
-  Decode : (path : List ℕ) → Command
+  Decode : (asked : BodyAsked) → Command
 
 -- what the words ask for, or the number of the first word that is refused, counted from 1
 pub data Words : Type 0 where
@@ -81,10 +88,14 @@ encode_of words = command_of (encode_keys (stands_as_key (codes "--name") words)
 -- ---- decode
 
 abbrev pub decode_keys : List Key
-decode_keys = record { word = codes "--input"; takes = is_path } ∷ []
+decode_keys = record { word = codes "--input"; takes = is_path } ∷ record { word = codes "--form"; takes = λ value. is_some (form_of value) } ∷ []
+
+-- the form that the pairs ask for, or that of a file
+abbrev pub form_asked : List (List ℕ × List ℕ) → Form
+form_asked pairs = unwrap_or (option_and_then form_of (value_of (codes "--form") pairs)) File
 
 abbrev pub decode_asked : List (List ℕ × List ℕ) → Option Command
-decode_asked pairs = option_map (λ path. Decode path) (value_of (codes "--input") pairs)
+decode_asked pairs = option_map (λ path. Decode (record { path = path; form = form_asked pairs })) (value_of (codes "--input") pairs)
 
 abbrev pub decode_of : List (List ℕ) → Words
 decode_of words = command_of decode_keys decode_asked words

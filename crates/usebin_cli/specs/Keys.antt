@@ -1,8 +1,10 @@
 -- Pairs of a key and its value on the command line, in any order, each key once.
-use Rattle.std.specs.Prelude.{ℕ, ◌+◌, ◌-◌, ◌==◌, ◌&&◌, ◌||◌, Bool, false, not, nat_le, List, [], ◌∷◌, ◌++◌, length, get_or, if◌then◌else◌, Result, Ok, Err, Option, Some, None, is_some}
+use Rattle.std.specs.Prelude.{ℕ, ◌+◌, ◌-◌, ◌==◌, ◌&&◌, ◌||◌, Bool, false, not, nat_le, List, [], ◌∷◌, ◌++◌, length, get_or, if◌then◌else◌, Result, Ok, Err, Option, Some, None, is_some, codes}
 use Rattle.std.specs.Str.{bytes_eq}
 use Rattle.std.specs.List.{list_all}
 use Rattle.ub_base.specs.Numbers.{decimal_of, within}
+use Rattle.usebin_cli.specs.declared.keys.Form.{Form}
+use Rattle.usebin_cli.specs.declared.keys.Form.TheVariants.{File, Wire}
 
 -- ---- what a value has to be
 
@@ -36,6 +38,10 @@ is_named_path path = is_header_name (file_name path)
 -- the number that a value is in decimal digits, from the least to the most
 abbrev pub number_in : ℕ → ℕ → List ℕ → Option ℕ
 number_in least most value = within least most (decimal_of value)
+
+-- how a body was saved: as the lines of a file, or as a reply off the wire
+abbrev pub form_of : List ℕ → Option Form
+form_of value = if bytes_eq value (codes "file") then Some File else if bytes_eq value (codes "wire") then Some Wire else None
 
 -- ---- keys
 

@@ -6,5 +6,6 @@ pub mod Encode
 pub mod Keys
 pub mod Printed
 pub mod Reading
+pub mod Reply
 pub mod Run
 pub mod Writing

@@ -7,10 +7,12 @@ use Rattle.usebin_cli.specs.CommandLine.Words.{Asks, Refused}
 use Rattle.usebin_cli.specs.CommandLine.Command.{Decode, Encode}
 use Rattle.yenc_body.specs.declared.part.Part.{Part as BodyPart}
 use Rattle.yenc_body.specs.declared.fault.Fault.{Fault}
-use Rattle.usebin_cli.specs.Decode.{IsDecoded, IsNoBody, most_text}
+use Rattle.usebin_cli.specs.Decode.{IsDecoded, IsNoBody, IsNoReply, most_text}
 use Rattle.usebin_cli.specs.Encode.{IsAskedCall, IsEncoded, IsInPart, IsOver}
 use Rattle.usebin_cli.specs.Printed.{fault_line, range_line}
 use Rattle.usebin_cli.specs.Reading.{Reading, HasFailed, IsReadOrOpen, IsBelow, Fits, Exceeds}
+use Rattle.usebin_cli.specs.declared.reply.ReplyFault.{ReplyFault}
+use Rattle.usebin_cli.specs.declared.reply.ReplyFault.TheVariants.{NoReply, Code, Unfinished, Rest}
 use Rattle.usebin_cli.specs.declared.encode.Limit.{Limit}
 use Rattle.usebin_cli.specs.declared.encode.Limit.TheVariants.{File, Part, Segments}
 use Rattle.usebin_cli.specs.Writing.{Written}
@@ -19,7 +21,7 @@ use Rattle.usebin_cli.specs.Writing.{Written}
 abbrev pub IsTextFor : Words → Option (List (List ℕ × List ℕ)) → Reading → List ℕ → Type 0
 IsTextFor (Refused number) files r text = ⊥
 IsTextFor (Asks (Encode asked)) files r text = IsEncoded asked files r.current text
-IsTextFor (Asks (Decode path)) files r text = (p : BodyPart) × IsDecoded path files r.current p × (text ≡ p.content)
+IsTextFor (Asks (Decode asked)) files r text = (p : BodyPart) × IsDecoded asked files r.current p × (text ≡ p.content)
 
 -- the text that the words ask for was written so
 abbrev pub Wrote : (List ℕ → Written → Type 0) → Words → Option (List (List ℕ × List ℕ)) → Reading → Written → Type 0
@@ -30,7 +32,7 @@ Wrote how words files r w = (text : List ℕ) × IsTextFor words files r text ×
 abbrev pub InputFailed : Words → Reading → Type 0
 InputFailed (Refused number) r = ⊥
 InputFailed (Asks (Encode asked)) r = HasFailed (IsAskedCall asked r.current) r
-InputFailed (Asks (Decode path)) r = HasFailed (IsReadOrOpen path) r
+InputFailed (Asks (Decode asked)) r = HasFailed (IsReadOrOpen asked.path) r
 
 -- a text with the end of its line
 abbrev pub line : List ℕ → List ℕ
@@ -47,11 +49,18 @@ limit_line File = line (codes "usebin: limit file 1099511627776")
 limit_line Segments = line (codes "usebin: limit segments 262144")
 limit_line (Part total) = codes "usebin: limit part " ++ decimal total ++ 10 ∷ []
 
+-- the line for a text that is no reply with a body
+abbrev pub reply_line : ReplyFault → List ℕ
+reply_line NoReply = line (codes "usebin: reply NoReply")
+reply_line (Code code) = codes "usebin: reply Code " ++ decimal code ++ 10 ∷ []
+reply_line Unfinished = line (codes "usebin: reply Unfinished")
+reply_line Rest = line (codes "usebin: reply Rest")
+
 -- the words ask for what goes past a limit of a file of this length, and this is its line
 abbrev pub IsLimitLine : Words → Option ℕ → List ℕ → Type 0
 IsLimitLine (Refused number) current text = ⊥
 IsLimitLine (Asks (Encode asked)) current text = (limit : Limit) × IsOver asked current limit × (text ≡ limit_line limit)
-IsLimitLine (Asks (Decode path)) current text = Exceeds most_text current × (text ≡ line (codes "usebin: limit text 67108864"))
+IsLimitLine (Asks (Decode asked)) current text = Exceeds most_text current × (text ≡ line (codes "usebin: limit text 67108864"))
 
 -- the words ask for what goes past a limit of a file of this length
 abbrev pub IsOverLimit : Words → Option ℕ → Type 0
@@ -61,20 +70,21 @@ IsOverLimit words current = (text : List ℕ) × IsLimitLine words current text
 abbrev pub IsAskedPlace : Words → Option ℕ → ℕ → Type 0
 IsAskedPlace (Refused number) current place = ⊥
 IsAskedPlace (Asks (Encode asked)) current place = IsInPart asked current place
-IsAskedPlace (Asks (Decode path)) current place = IsBelow current place
+IsAskedPlace (Asks (Decode asked)) current place = IsBelow current place
 
--- the line for a text that the words ask the bytes of, and that is no body
+-- the line for a text that the words ask the bytes of, and that has no body or is no reply with one
 abbrev pub IsFaultLine : Words → Option (List (List ℕ × List ℕ)) → Option ℕ → List ℕ → Type 0
-IsFaultLine (Asks (Decode path)) files current text = (f : Fault) × IsNoBody path files current f × (text ≡ fault_line f)
+IsFaultLine (Asks (Decode asked)) files current text =
+    ((f : Fault) × IsNoBody asked files current f × (text ≡ fault_line f)) ⊎ ((f : ReplyFault) × IsNoReply asked files current f × (text ≡ reply_line f))
 IsFaultLine other files current text = ⊥
 
--- the words ask for the bytes of a body, and what is at their path is none
+-- the words ask for the bytes of a body, and what is at their path has none
 abbrev pub AsksOfNoBody : Words → Option (List (List ℕ × List ℕ)) → Option ℕ → Type 0
 AsksOfNoBody words files current = (text : List ℕ) × IsFaultLine words files current text
 
 -- the words ask for the bytes of a body, and a body within the limits is what the input tells at their path
 abbrev pub AsksOfBody : Words → Option (List (List ℕ × List ℕ)) → Option ℕ → Type 0
-AsksOfBody (Asks (Decode path)) (Some files) current = (p : BodyPart) × IsDecoded path (Some files) current p × Fits most_text current
+AsksOfBody (Asks (Decode asked)) (Some files) current = (p : BodyPart) × IsDecoded asked (Some files) current p × Fits most_text current
 AsksOfBody other files current = ⊥
 
 -- the line for an input that is refused: a read gave no byte where the words ask for one, a limit is passed, or a text is
@@ -86,7 +96,7 @@ IsInputLine words files r text =
 
 -- what is told once the text for the output is made, and before it is written: of a decoded part its range
 abbrev pub IsNote : Words → Option (List (List ℕ × List ℕ)) → Option ℕ → List ℕ → Type 0
-IsNote (Asks (Decode path)) files current note = (p : BodyPart) × IsDecoded path files current p × (note ≡ range_line p)
+IsNote (Asks (Decode asked)) files current note = (p : BodyPart) × IsDecoded asked files current p × (note ≡ range_line p)
 IsNote other files current note = note ≡ []
 
 -- such a note and then a line

@@ -1,17 +1,18 @@
 // The command `decode`.
-ghost use Rattle.std.specs.Prelude.{MatchResult, Ok, Err};
-ghost use Rattle.yenc_body.specs.Body.{IsBody};
-ghost use Rattle.yenc_body.specs.ReadBody.{IsRefusedFor};
-ghost use Rattle.yenc_body.specs.Text.{text_lines};
-ghost use Rattle.usebin_cli.specs.Decode.{DecodeEnds, ToldRange};
+ghost use Rattle.std.specs.Prelude.{◌≡◌};
+ghost use Rattle.usebin_cli.specs.Asked.{body_asked};
+ghost use Rattle.usebin_cli.specs.Decode.{DecodeEnds, ReadsLines, ReadsText, ToldRange, no_reply};
 ghost use Rattle.usebin_cli.specs.Reading.{reading};
 ghost use Rattle.usebin_cli.specs.Writing.{written};
 
+use crate::keys::Form;
 use crate::printed::write_range;
 use crate::reading::{ReadError, read_file};
+use crate::reply::{ReplyError, ReplyFault, reply_lines};
+use crate::words::DecodeWords;
 use crate::writing::write_all;
 use std::alloc::Global;
-use ub_base::{Bytes, Failed, Input, Sink};
+use ub_base::{Bytes, Failed, Input, Lines, Memory, Sink};
 use yenc_body::{BodyError, Fault, Part, read_body, split_text};
 
 // How many bytes a saved text may have.
@@ -30,34 +31,48 @@ pub(crate) enum DecodeEnd {
     Short(u64),
     /// The text has too many bytes.
     TextLimit,
-    /// The text is no body.
-    Refused(Fault),
+    /// The text is no reply with a body.
+    NoReply(ReplyFault),
+    /// The text has no body.
+    NoBody(Fault),
     /// A write failed; whether the range was told whole before.
     OutputFault(bool),
 }
 
-/// Writes the bytes of the part whose body the text at a path is, and tells the part's range.
+/// Why a text was not read to a part.
+#[derive(Clone, Copy, Debug, PartialEq, Eq)]
+pub(crate) enum TextError {
+    /// No memory was left.
+    Memory,
+    /// The text is no reply with a body.
+    NoReply(ReplyFault),
+    /// The text has no body.
+    NoBody(Fault),
+}
+
+/// Writes the bytes of the part whose body was saved in the text at a path, and tells the part's range.
 pub(crate) fn decode<I: Input, O: Sink, E: Sink>(
     alloc: Global,
-    path: &str,
+    asked: DecodeWords<'_>,
     input: &mut I,
     out: &mut O,
     err: &mut E,
 ) -> DecodeEnd
-    ensures { DecodeEnds path.now (I.files input.old) (reading I.faults I.shorts I.short_place I.current I.blame input.old input.new)
+    ensures { DecodeEnds (body_asked asked.entry) (I.files input.old) (reading I.faults I.shorts I.short_place I.current I.blame input.old input.new)
         (written O.faults O.told out.old out.new) (written E.faults E.told err.old err.new) result }
 {
-    let text = match read_file(alloc, path, MOST_TEXT, input) {
+    let text = match read_file(alloc, asked.path, MOST_TEXT, input) {
         Ok(text) => text,
         Err(ReadError::Memory) => return DecodeEnd::Memory,
         Err(ReadError::Fault) => return DecodeEnd::InputFault,
         Err(ReadError::Short(place)) => return DecodeEnd::Short(place),
         Err(ReadError::TooLong) => return DecodeEnd::TextLimit,
     };
-    let part = match read_text(alloc, text) {
+    let part = match read_text(alloc, asked.form, text) {
         Ok(part) => part,
-        Err(BodyError::Memory) => return DecodeEnd::Memory,
-        Err(BodyError::Refused(fault)) => return DecodeEnd::Refused(fault),
+        Err(TextError::Memory) => return DecodeEnd::Memory,
+        Err(TextError::NoReply(fault)) => return DecodeEnd::NoReply(fault),
+        Err(TextError::NoBody(fault)) => return DecodeEnd::NoBody(fault),
     };
     let told = tell_range(&part, err);
     match write_all(out, part.content.as_slice()) {
@@ -66,15 +81,42 @@ pub(crate) fn decode<I: Input, O: Sink, E: Sink>(
     }
 }
 
-// The part whose body a text is. The text's memory is given back before its lines are read.
-fn read_text(alloc: Global, text: Bytes) -> Result<Part, BodyError>
-    ensures { MatchResult result (IsBody (text_lines text)) (IsRefusedFor (text_lines text)) }
+// The part whose body was saved in a text. The text's memory is given back before its lines are read.
+fn read_text(alloc: Global, form: Form, text: Bytes) -> Result<Part, TextError>
+    ensures { ReadsText form text result }
 {
-    let Ok(lines) = split_text(alloc, text.as_slice()) else {
-        return Err(BodyError::Memory);
+    let lines = match read_lines(alloc, form, text.as_slice()) {
+        Ok(lines) => lines,
+        Err(error) => return Err(no_reply(error)),
     };
     drop(text);
-    read_body(alloc, &lines)
+    match read_body(alloc, &lines) {
+        Ok(part) => Ok(part),
+        Err(BodyError::Memory) => Err(TextError::Memory),
+        Err(BodyError::Refused(fault)) => Err(TextError::NoBody(fault)),
+    }
+}
+
+fn no_reply(error: ReplyError) -> TextError
+    ensures { result ≡ no_reply error }
+{
+    match error {
+        ReplyError::Memory => TextError::Memory,
+        ReplyError::Refused(fault) => TextError::NoReply(fault),
+    }
+}
+
+// The lines of a body as it was saved.
+fn read_lines(alloc: Global, form: Form, text: &[u8]) -> Result<Lines, ReplyError>
+    ensures { ReadsLines form text.now result }
+{
+    match form {
+        Form::File => match split_text(alloc, text) {
+            Ok(lines) => Ok(lines),
+            Err(Memory) => Err(ReplyError::Memory),
+        },
+        Form::Wire => reply_lines(alloc, text),
+    }
 }
 
 // Whether the line of a part's range was written whole.

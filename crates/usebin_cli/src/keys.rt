@@ -2,7 +2,8 @@
 ghost use Rattle.std.specs.Prelude.{◌≡◌, ◌≤◌, ◌<◌, IfSome, length, map, string_bytes};
 ghost use Rattle.std.specs.Option.{option_and_then, option_copied, option_map, unwrap_or};
 ghost use Rattle.std.specs.List.{list_all};
-ghost use Rattle.usebin_cli.specs.Keys.{file_name as file_name_of, is_header_name, is_printable, key_of, number_in, stands_as_key, value_of};
+ghost use Rattle.usebin_cli.specs.Keys.{file_name as file_name_of, form_of, is_header_name, is_printable, key_of, number_in, stands_as_key, value_of};
+ghost use Rattle.usebin_cli.specs.declared.keys.Form.TheVariants.{File};
 ghost use Rattle.usebin_cli.specs.Asked.{key_model, paired, takes_by, ChecksPair, ChecksPairs};
 
 use ub_base::read_dec;
@@ -18,6 +19,17 @@ pub(crate) enum Rule {
     HeaderName,
     /// A number in decimal digits, within these limits. Leading zeros may stand.
     Number { least: u32, most: u32 },
+    /// How a body was saved: `file` or `wire`.
+    Form,
+}
+
+/// How a body was saved.
+#[derive(Clone, Copy, Debug, PartialEq, Eq)]
+pub(crate) enum Form {
+    /// As the lines of a file.
+    File,
+    /// As the reply of a news server, off the wire.
+    Wire,
 }
 
 /// A key that a command knows.
@@ -87,6 +99,7 @@ fn takes(rule: Rule, value: &str) -> bool
         Rule::NamedPath => is_header_name(file_name(value.as_bytes())),
         Rule::HeaderName => is_header_name(value.as_bytes()),
         Rule::Number { least, most } => number_in(value, least, most).is_some(),
+        Rule::Form => form_in(value).is_some(),
     }
 }
 
@@ -129,6 +142,26 @@ fn number_in(value: &str, least: u32, most: u32) -> Option<u32>
 {
     match read_dec(value.as_bytes(), u64::from(most)) {
         Some(number) if number >= u64::from(least) => Some(number as u32),
+        _ => None,
+    }
+}
+
+/// The form that is the value of a key in the pairs that these words are, or that of a file.
+pub(crate) fn form_or_file(words: &[String], key: &str) -> Form
+    ensures { result ≡ unwrap_or (option_and_then form_of (value_of key.now (paired (map string_bytes words.now)))) File }
+{
+    match value_in(words, key) {
+        Some(value) => form_in(value).unwrap_or(Form::File),
+        None => Form::File,
+    }
+}
+
+fn form_in(value: &str) -> Option<Form>
+    ensures { result ≡ form_of value.now }
+{
+    match value {
+        "file" => Some(Form::File),
+        "wire" => Some(Form::Wire),
         _ => None,
     }
 }

@@ -8,6 +8,7 @@ mod keys;
 mod nothing;
 mod printed;
 mod reading;
+mod reply;
 mod statuses;
 mod top;
 mod words;

@@ -2,11 +2,12 @@
 ghost use Rattle.std.specs.Prelude.{◌≡◌, ◌++◌, ◌∷◌, [], codes};
 ghost use Rattle.std.specs.Fmt.{decimal};
 ghost use Rattle.usebin_cli.specs.Printed.{fault_line};
-ghost use Rattle.usebin_cli.specs.Run.{limit_line, line};
+ghost use Rattle.usebin_cli.specs.Run.{limit_line, line, reply_line};
 ghost use Rattle.usebin_cli.specs.Writing.{written, Got};
 
 use crate::encode::Limit;
 use crate::printed::write_fault;
+use crate::reply::ReplyFault;
 use crate::writing::{say, say_numbered};
 use ub_base::Sink;
 use yenc_body::Fault;
@@ -69,7 +70,7 @@ pub(crate) fn text_too_long<E: Sink>(err: &mut E) -> u8
     6
 }
 
-/// A saved text is no body.
+/// A saved text has no body.
 pub(crate) fn no_body<E: Sink>(fault: &Fault, err: &mut E) -> u8
     ensures status { result ≡ 6 }
     ensures text { Got (fault_line fault.now) (written E.faults E.told err.old err.new) }
@@ -77,6 +78,20 @@ pub(crate) fn no_body<E: Sink>(fault: &Fault, err: &mut E) -> u8
     let mut buffer = [0; 160];
     let len = write_fault(fault, &mut buffer);
     say(err, &buffer[..len]);
+    6
+}
+
+/// A saved text is no reply with a body.
+pub(crate) fn no_reply<E: Sink>(fault: ReplyFault, err: &mut E) -> u8
+    ensures status { result ≡ 6 }
+    ensures text { Got (reply_line fault) (written E.faults E.told err.old err.new) }
+{
+    match fault {
+        ReplyFault::NoReply => say(err, b"usebin: reply NoReply\n"),
+        ReplyFault::Code(code) => say_numbered(err, b"usebin: reply Code ", u64::from(code)),
+        ReplyFault::Unfinished => say(err, b"usebin: reply Unfinished\n"),
+        ReplyFault::Rest => say(err, b"usebin: reply Rest\n"),
+    }
     6
 }
 

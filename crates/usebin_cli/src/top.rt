@@ -9,7 +9,8 @@ ghost use Rattle.usebin_cli.specs.Writing.{written, Got, IsUntouched, WroteFront
 use crate::decode::{DecodeEnd, decode};
 use crate::encode::{EncodeEnd, encode};
 use crate::statuses::{
-    input_fault, no_body, no_memory, output_fault, over_limit, short, text_too_long, words_refused,
+    input_fault, no_body, no_memory, no_reply, output_fault, over_limit, short, text_too_long,
+    words_refused,
 };
 use crate::words::{Command, read_words};
 use std::alloc::Global;
@@ -58,7 +59,7 @@ pub fn usebin<I: Input, T: Store, L: Links, O: Sink, E: Sink>(
     ensures output_count { O.faults out.old < O.faults out.new → (result ≡ 4) ⊎ (result ≡ 7) }
 
     // 6: exactly where a read gave no byte below the file's length, the file or what is asked of it goes past a limit, or
-    // what is to be decoded is no body.
+    // what is to be decoded has no body.
     ensures input_refused { result ≡ 6 → Rose (I.shorts input.old) (I.shorts input.new) ⊎ (IsOverLimit (words_of (map string_bytes words.now)) (I.current input.new)
         ⊎ AsksOfNoBody (words_of (map string_bytes words.now)) (I.files input.old) (I.current input.new)) }
     ensures body { AsksOfBody (words_of (map string_bytes words.now)) (I.files input.old) (I.current input.new) → result ≡ 6 → Rose (I.shorts input.old) (I.shorts input.new) }
@@ -87,13 +88,14 @@ pub fn usebin<I: Input, T: Store, L: Links, O: Sink, E: Sink>(
             EncodeEnd::Limit(limit) => over_limit(limit, err),
             EncodeEnd::OutputFault => output_fault(err),
         },
-        Ok(Command::Decode(path)) => match decode(alloc, path, input, out, err) {
+        Ok(Command::Decode(asked)) => match decode(alloc, asked, input, out, err) {
             DecodeEnd::Done(_) => 0,
             DecodeEnd::Memory => no_memory(err),
             DecodeEnd::InputFault => input_fault(err),
             DecodeEnd::Short(place) => short(place, err),
             DecodeEnd::TextLimit => text_too_long(err),
-            DecodeEnd::Refused(fault) => no_body(&fault, err),
+            DecodeEnd::NoReply(fault) => no_reply(fault, err),
+            DecodeEnd::NoBody(fault) => no_body(&fault, err),
             DecodeEnd::OutputFault(true) => output_fault(err),
             // A write to `err` failed before, and nothing more is written to it.
             DecodeEnd::OutputFault(false) => 4,

@@ -5,7 +5,9 @@ ghost use Rattle.usebin_cli.specs.CommandLine.{decode_of, encode_keys, encode_of
 ghost use Rattle.usebin_cli.specs.Keys.{file_name as file_name_of, is_header_name, value_of};
 ghost use Rattle.usebin_cli.specs.Asked.{IsAllowed, IsEncodeAllowed, ReadsCommand, ReadsDecode, ReadsEncode, key_model, paired};
 
-use crate::keys::{Key, Rule, check_pairs, file_name, has_key, number_or, value_in};
+use crate::keys::{
+    Form, Key, Rule, check_pairs, file_name, form_or_file, has_key, number_or, value_in,
+};
 use yenc_lines::Name;
 
 // How many characters a data line has before it is full.
@@ -21,8 +23,8 @@ const MOST_PART_SIZE: u32 = 16_777_216;
 pub(crate) enum Command<'a> {
     /// The body of a part of a file.
     Encode(EncodeWords<'a>),
-    /// The bytes of the saved body at a path.
-    Decode(&'a str),
+    /// The bytes of a saved body.
+    Decode(DecodeWords<'a>),
 }
 
 /// What `encode` is asked for.
@@ -40,6 +42,15 @@ pub(crate) struct EncodeWords<'a> {
     pub(crate) part: u32,
 }
 
+/// What `decode` is asked for.
+#[derive(Clone, Copy, Debug, Drop)]
+pub(crate) struct DecodeWords<'a> {
+    /// The path of the text.
+    pub(crate) path: &'a str,
+    /// How the body was saved.
+    pub(crate) form: Form,
+}
+
 /// What the words ask for, or the number of the first word that is refused, counted from 1.
 pub(crate) fn read_words(words: &[String]) -> Result<Command<'_>, u64>
     ensures words { ReadsCommand (words_of (map string_bytes words.now)) result }
@@ -54,7 +65,7 @@ pub(crate) fn read_words(words: &[String]) -> Result<Command<'_>, u64>
             Err(number) => Err(number),
         },
         "decode" => match read_decode(rest) {
-            Ok(path) => Ok(Command::Decode(path)),
+            Ok(asked) => Ok(Command::Decode(asked)),
             Err(number) => Err(number),
         },
         _ => Err(1),
@@ -156,19 +167,28 @@ fn name_given<'a>(words: &'a [String], path: &'a str) -> &'a [u8]
     }
 }
 
-// The path in the words behind `decode`.
-fn read_decode(words: &[String]) -> Result<&str, u64>
+// What the words behind `decode` ask for.
+fn read_decode(words: &[String]) -> Result<DecodeWords<'_>, u64>
     ensures { ReadsDecode (decode_of (map string_bytes words.now)) result }
 {
-    let keys = [Key {
-        word: "--input",
-        rule: Rule::Path,
-    }];
+    let keys = [
+        Key {
+            word: "--input",
+            rule: Rule::Path,
+        },
+        Key {
+            word: "--form",
+            rule: Rule::Form,
+        },
+    ];
     if let Err(number) = check_pairs(&keys, words) {
         return Err(number);
     }
     match value_in(words, "--input") {
-        Some(path) => Ok(path),
+        Some(path) => Ok(DecodeWords {
+            path,
+            form: form_or_file(words, "--form"),
+        }),
         None => Err(words.len() as u64 + 2),
     }
 }

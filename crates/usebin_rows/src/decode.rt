@@ -275,3 +275,86 @@ fn tells_the_range_before_a_fault_of_the_output(rt: HostRuntime) -> Result<(), F
     assert_eq!(rt; ran.out.bytes(), b"123456789".as_slice());
     Ok(())
 }
+
+// What `decode --form wire` of a reply answers and writes.
+fn decoded_reply(
+    alloc: Global,
+    text: &[u8],
+    status: u8,
+    out: &[u8],
+    err: &[u8],
+) -> Result<bool, Fail> {
+    let mut input = input_of(alloc, "saved", text)?;
+    let words = ["decode", "--form", "wire", "--input", "saved"];
+    let ran = run(alloc, &words, &mut input, &[])?;
+    Ok(ran.status == status && ran.out.bytes() == out && ran.err.bytes() == err)
+}
+
+#[test]
+fn decodes_a_reply_off_the_wire(rt: HostRuntime) -> Result<(), Fail> {
+    let reply =
+        b"222 0 <a@b>\r\n=ybegin line=128 size=9 name=d\r\n[\\]^_`abc\r\n.=yend size=9 crc32=cbf43926\r\n.\r\n";
+    assert!(rt; decoded_reply(rt.alloc(), reply, 0, b"123456789", b"range 1-9 of 9\n")?);
+    // A dot that was doubled is one, and what ends no line is no end.
+    let doubled = b"222\r\n=ybegin line=128 size=2 name=d\r\n..+\r\n=yend size=2\r\n.\r\n";
+    assert!(rt; decoded_reply(rt.alloc(), doubled, 0, b"\x04\x01", b"range 1-2 of 2\n")?);
+    let form = ["decode", "--form", "file", "--input", "saved"];
+    let text = b"=ybegin line=128 size=9 name=d\n[\\]^_`abc\n=yend size=9\n";
+    let ran = run(
+        rt.alloc(),
+        &form,
+        &mut input_of(rt.alloc(), "saved", text)?,
+        &[],
+    )?;
+    assert_eq!(rt; ran.out.bytes(), b"123456789".as_slice());
+    Ok(())
+}
+
+#[test]
+fn names_what_is_wrong_with_a_reply(rt: HostRuntime) -> Result<(), Fail> {
+    let rows: [(&[u8], &[u8]); 12] = [
+        (b"", b"usebin: reply NoReply\n"),
+        (b"222 0", b"usebin: reply NoReply\n"),
+        // A lone LF ends no line, so that no block follows this one.
+        (b"222 0\n.\r\n", b"usebin: reply Unfinished\n"),
+        (b"hello\r\n.\r\n", b"usebin: reply NoReply\n"),
+        (b".\r\n", b"usebin: reply NoReply\n"),
+        (b"430 none\r\n", b"usebin: reply Code 430\n"),
+        (b"220 0 <a@b>\r\n.\r\n", b"usebin: reply Code 220\n"),
+        (b"222 0\r\n", b"usebin: reply Unfinished\n"),
+        (
+            b"222 0 <a@b>\r\n=ybegin line=128 size=9 name=d\r\n[\\]^_`abc\r\n.=yend size=9 crc32=cbf43926\r\n.\r",
+            b"usebin: reply Unfinished\n",
+        ),
+        (
+            b"222 0 <a@b>\r\n=ybegin line=128 size=9 name=d\r\n[\\]^_`abc\r\n.=yend size=9 crc32=cbf43926\r\n.\r\nx",
+            b"usebin: reply Rest\n",
+        ),
+        (b"222 0\r\n.\r\n", b"usebin: line 1 column 1 NoBegin\n"),
+        (
+            b"222 0\r\n=ybegin line=128 size=2 name=d\r\na\rb\r\n=yend size=2\r\n.\r\n",
+            b"usebin: line 2 column 2 Stray\n",
+        ),
+    ];
+    for (text, line) in rows {
+        assert!(rt; decoded_reply(rt.alloc(), text, 6, b"", line)?);
+    }
+    Ok(())
+}
+
+#[test]
+fn a_status_line_off_the_wire_has_510_bytes_at_most(rt: HostRuntime) -> Result<(), Fail> {
+    let alloc = rt.alloc();
+    for (len, line) in [
+        (510u32, b"usebin: line 1 column 1 NoBegin\n".as_slice()),
+        (511, b"usebin: reply NoReply\n"),
+    ] {
+        let mut text = bytes_of(alloc, b"222 ")?;
+        for _ in 4..len {
+            text.push(b'x')?;
+        }
+        text.extend(b"\r\n.\r\n")?;
+        assert!(rt; decoded_reply(alloc, text.as_slice(), 6, b"", line)?);
+    }
+    Ok(())
+}

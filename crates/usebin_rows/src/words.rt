@@ -13,7 +13,7 @@ const TOO_LONG: &str =
 
 #[test]
 fn knows_each_command(rt: HostRuntime) -> Result<(), Fail> {
-    let rows: [(&[&str], Option<u64>); 10] = [
+    let rows: [(&[&str], Option<u64>); 14] = [
         (&[], Some(1)),
         (&["check"], Some(1)),
         (&["encode"], Some(2)),
@@ -24,6 +24,10 @@ fn knows_each_command(rt: HostRuntime) -> Result<(), Fail> {
         (&["decode", "--input"], Some(3)),
         (&["decode", "--input", ""], Some(3)),
         (&["decode", "--input", "d/"], None),
+        (&["decode", "--input", "d", "--form", "wire"], None),
+        (&["decode", "--form", "file", "--input", "d"], None),
+        (&["decode", "--input", "d", "--form", "nzb"], Some(5)),
+        (&["decode", "--form", "wire"], Some(4)),
     ];
     for (words, number) in rows {
         let words = words_of(rt.alloc(), words)?;
