@@ -1,17 +1,8 @@
 #!/bin/sh
 # The built program's `decode` on what `encode` wrote, on damaged texts, and on bodies that uuenview made, another program's
 # encoder.
-set -u
-program=$PWD/crates/usebin/out/usebin
-folder=$(mktemp -d) || exit 1
-trap 'rm -rf "$folder"' EXIT
-cd "$folder" || exit 1
-status=0
-
-complain() {
-    echo "outside/decode: $1"
-    status=1
-}
+check=outside/decode
+. outside/begin
 
 # back FILE LINE: the text in `saved` is decoded to FILE, and tells LINE
 back() {
@@ -30,8 +21,6 @@ refused() {
     [ "$(head -n 1 err)" = "$1" ] || complain "the line isn't '$1'"
     [ ! -s out ] || complain "bytes of a refused text: $1"
 }
-
-[ -x "$program" ] || { echo "outside/decode: skipped, the program isn't built"; exit 0; }
 
 head -c 300000 /dev/urandom >file
 : >empty

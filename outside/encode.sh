@@ -1,17 +1,8 @@
 #!/bin/sh
 # The built program on worked cases, its statuses and their lines, and what it writes read back by uudeview, another
 # program's decoder.
-set -u
-program=$PWD/crates/usebin/out/usebin
-folder=$(mktemp -d) || exit 1
-trap 'rm -rf "$folder"' EXIT
-cd "$folder" || exit 1
-status=0
-
-complain() {
-    echo "outside/encode: $1"
-    status=1
-}
+check=outside/encode
+. outside/begin
 
 # expect STATUS LINE WORD ..: the status, and the first line on standard error
 expect() {
@@ -33,8 +24,6 @@ text() {
     expect 0 '' encode --input "$name"
     cmp -s out wanted || complain "another text of $name"
 }
-
-[ -x "$program" ] || { echo "outside/encode: skipped, the program isn't built"; exit 0; }
 
 text e '' '=ybegin line=128 size=0 name=e' '=yend size=0 crc32=00000000'
 text d '123456789' '=ybegin line=128 size=9 name=d' '[\\]^_`abc' '=yend size=9 crc32=cbf43926'
