@@ -3,6 +3,9 @@ pub mod InMemory
 pub mod Input
 pub mod Lines
 pub mod Links
+pub mod Log
 pub mod Numbers
+pub mod Script
+pub mod ScriptLinks
 pub mod Sink
 pub mod Store

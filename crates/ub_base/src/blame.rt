@@ -1,5 +1,8 @@
 // What a failed call is blamed on.
-use crate::Bytes;
+ghost use Rattle.std.specs.Prelude.{◌≡◌, ◌⊎◌, Some, None};
+
+use crate::{Bytes, Memory};
+use std::alloc::Global;
 
 /// A call on the outside, as an object tells it after it failed.
 #[derive(Drop)]
@@ -18,4 +21,15 @@ pub enum Blame {
     Send(u32),
     /// A receive on the link of this number.
     Receive(u32),
+}
+
+// The blame for an opening, or nothing where there is no room for its name.
+pub(crate) fn opening(alloc: Global, name: &[u8]) -> Option<Blame>
+    ensures { (result ≡ Some (Blame.Open name.now)) ⊎ (result ≡ None) }
+{
+    let mut bytes = Bytes::new(alloc);
+    match bytes.extend(name) {
+        Ok(()) => Some(Blame::Open(bytes)),
+        Err(Memory) => None,
+    }
 }

@@ -4,9 +4,9 @@ ghost use Rattle.std.specs.Option.{option_map};
 ghost use Rattle.ub_base.specs.Causes.{HasCause, BlamesNamed, blame_after, next_count};
 ghost use Rattle.ub_base.specs.Input.{file_of, Opens, OpensFile, GivesAt};
 
+use crate::blame::opening;
 use crate::count::raised;
-use crate::{Blame, Bytes, Failed, Input, List, Memory};
-use std::alloc::Global;
+use crate::{Blame, Bytes, Failed, Input, List};
 
 /// Files in memory, by name. Chosen calls fail, and so does the opening of a name that no file has.
 #[derive(Drop)]
@@ -79,7 +79,7 @@ impl Input for MemInput {
         self.current = None;
         if self.failing.as_slice().contains(&self.calls) {
             self.faults = raised(self.faults);
-            self.blame = opening(self.files.alloc(), name);
+            self.blame = opening(self.files.alloc(), name.as_bytes());
             return Err(Failed);
         }
         match place_of(self.files.as_slice(), name) {
@@ -89,7 +89,7 @@ impl Input for MemInput {
             }
             None => {
                 self.faults = raised(self.faults);
-                self.blame = opening(self.files.alloc(), name);
+                self.blame = opening(self.files.alloc(), name.as_bytes());
                 Err(Failed)
             }
         }
@@ -131,7 +131,7 @@ impl Input for MemInput {
 }
 
 // Copies bytes from a place on to the front of a buffer, and says how many.
-fn copy_from(bytes: &[u8], from: usize, buf: &mut [u8]) -> usize
+pub(crate) fn copy_from(bytes: &[u8], from: usize, buf: &mut [u8]) -> usize
     requires { from < length bytes.now }
     ensures count { result ≡ min (length buf.old) (length bytes.now - from) }
     ensures gives { 0 < length buf.old → GivesAt (Some bytes.now) from buf.new result }
@@ -140,17 +140,6 @@ fn copy_from(bytes: &[u8], from: usize, buf: &mut [u8]) -> usize
     let n = rest.len().min(buf.len());
     buf[..n].copy_from_slice(&rest[..n]);
     n
-}
-
-// The blame for an opening, or nothing where there is no room for its name.
-fn opening(alloc: Global, name: &str) -> Option<Blame>
-    ensures { (result ≡ Some (Blame.Open name.now)) ⊎ (result ≡ None) }
-{
-    let mut bytes = Bytes::new(alloc);
-    match bytes.extend(name.as_bytes()) {
-        Ok(()) => Some(Blame::Open(bytes)),
-        Err(Memory) => None,
-    }
 }
 
 // The place of the first file with a name.

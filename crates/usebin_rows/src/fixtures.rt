@@ -3,7 +3,7 @@ ghost use Rattle.std.specs.Prelude.{None};
 
 use std::alloc::Global;
 use std::test::Fail;
-use ub_base::{Bytes, Failed, Input, Lines, List, MemInput, MemSink};
+use ub_base::{Bytes, Failed, Input, List, MemInput, MemSink};
 use usebin_cli::{NoLinks, NoStore, usebin};
 
 /// A list of these bytes.
@@ -18,19 +18,6 @@ pub(crate) fn input_of(alloc: Global, name: &str, content: &[u8]) -> Result<MemI
     let mut files = List::new(alloc);
     files.push((bytes_of(alloc, name.as_bytes())?, bytes_of(alloc, content)?))?;
     Ok(MemInput::new(files, List::new(alloc)))
-}
-
-/// Whether the lines are these.
-pub(crate) fn are_lines(lines: &Lines, wanted: &[&[u8]]) -> bool {
-    if lines.len() != wanted.len() {
-        return false;
-    }
-    for i in 0..wanted.len() {
-        if lines.line(i) != wanted[i] {
-            return false;
-        }
-    }
-    true
 }
 
 /// A sink of which the writes of these numbers fail.

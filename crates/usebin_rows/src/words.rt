@@ -15,7 +15,7 @@ const TOO_LONG: &str =
 fn knows_each_command(rt: HostRuntime) -> Result<(), Fail> {
     let rows: [(&[&str], Option<u64>); 14] = [
         (&[], Some(1)),
-        (&["check"], Some(1)),
+        (&["verify"], Some(1)),
         (&["encode"], Some(2)),
         (&["encode", "--file", "d"], Some(2)),
         (&["encode", "--input"], Some(3)),

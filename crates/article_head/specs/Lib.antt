@@ -1,0 +1,4 @@
+pub mod Field
+pub mod Head
+pub mod PartId
+pub mod Subject

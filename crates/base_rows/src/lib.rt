@@ -1,0 +1,11 @@
+//! The worked cases of the base: lists, links in memory, and the real objects, tried on the system.
+#![tactic(auto)]
+
+#[cfg(test)]
+mod fixtures;
+#[cfg(test)]
+mod lists;
+#[cfg(test)]
+mod scripts;
+#[cfg(test)]
+mod system;

@@ -1,0 +1,143 @@
+// A trace that is kept, with room for the end of each link that is live.
+ghost use Rattle.std.specs.Prelude.{◌≡◌, ◌≤◌, ◌<◌, ◌+◌, ◌^◌, ◌++◌, [], ◌∷◌, Some, true, false, length, take, slice_get, slice_set, vec_len, vec_capacity, IfOk, OnOk, OnErr};
+ghost use Rattle.ub_base.specs.Log.{count_live};
+
+use crate::{Bytes, Failed, LinkEvent, Memory};
+use std::alloc::Global;
+
+// What happened on all links, and which of them are live. A link that is opened takes the room for its end, so that
+// it can be told after memory ran out.
+#[derive(Drop)]
+pub(crate) struct Log {
+    events: Vec<LinkEvent>,
+    live: Vec<bool>,
+    ends: usize,
+    ghost count: { ends ≡ count_live live.items },
+    ghost few: { ends ≤ vec_len live },
+    ghost many: { vec_len live ≤ 2 ^ 32 },
+    ghost room: { vec_len events + ends ≤ vec_capacity events },
+}
+
+impl Log {
+    ghost use Rattle.ub_base.specs.Links.{opened_events, live_after_open};
+    ghost use Rattle.ub_base.specs.declared.links.LinkEvent.TheVariants.{Sent, Heard, Quiet, Ended};
+
+    pub(crate) fn new(alloc: Global) -> Self
+        ensures events { result.events.items ≡ [] }
+        ensures live { result.live.items ≡ [] }
+    {
+        Log {
+            events: Vec::new(alloc),
+            live: Vec::new(alloc),
+            ends: 0,
+        }
+    }
+
+    // All that happened.
+    pub(crate) fn events(&self) -> &[LinkEvent]
+        ensures { result.now ≡ self.now.events.items }
+    {
+        &self.events
+    }
+
+    // How many links were opened.
+    pub(crate) fn opened(&self) -> usize
+        ensures { result ≡ length self.now.live.items }
+    {
+        self.live.len()
+    }
+
+    // The allocator of what is kept.
+    pub(crate) fn alloc(&self) -> Global {
+        *self.events.allocator()
+    }
+
+    // Opens the next link, and takes the room for its end. `Failed` changes nothing: there was no memory, or no number.
+    #[tactic(auto, using(crate::proofs::Lives::one_more))]
+    pub(crate) fn open(&mut self, address: &[u8]) -> Result<u32, Failed>
+        ensures number { IfOk result (λ link. link ≡ length self.old.live.items) }
+        ensures live { self.new.live.items ≡ live_after_open self.old.live.items result }
+        ensures events { self.new.events.items ≡ self.old.events.items ++ opened_events address.now result }
+    {
+        let number = self.live.len();
+        if number > u32::MAX as usize {
+            return Err(Failed);
+        }
+        let mut copy = Bytes::new(self.alloc());
+        if copy.extend(address).is_err() {
+            return Err(Failed);
+        }
+        if self.events.reserve(self.ends + 2).is_err() {
+            return Err(Failed);
+        }
+        if self.live.push(true).is_err() {
+            return Err(Failed);
+        }
+        self.ends += 1;
+        let link = number as u32;
+        match self.events.push(LinkEvent::Opened {
+            link,
+            address: copy,
+        }) {
+            Ok(()) => Ok(link),
+            Err(_) => unreachable!(),
+        }
+    }
+
+    // Tells the bytes that went out.
+    pub(crate) fn tell_sent(&mut self, link: u32, bytes: &[u8]) -> Result<(), Memory>
+        ensures ok { OnOk result (self.new.events.items ≡ self.old.events.items ++ Sent link bytes.now ∷ []) }
+        ensures err { OnErr result (self.new.events.items ≡ self.old.events.items) }
+        ensures live { self.new.live.items ≡ self.old.live.items }
+    {
+        let mut copy = Bytes::new(self.alloc());
+        copy.extend(bytes)?;
+        self.tell(LinkEvent::Sent { link, bytes: copy })
+    }
+
+    // Tells the bytes that came in.
+    pub(crate) fn tell_heard(&mut self, link: u32, bytes: &[u8]) -> Result<(), Memory>
+        ensures ok { OnOk result (self.new.events.items ≡ self.old.events.items ++ Heard link bytes.now ∷ []) }
+        ensures err { OnErr result (self.new.events.items ≡ self.old.events.items) }
+        ensures live { self.new.live.items ≡ self.old.live.items }
+    {
+        let mut copy = Bytes::new(self.alloc());
+        copy.extend(bytes)?;
+        self.tell(LinkEvent::Heard { link, bytes: copy })
+    }
+
+    // Tells that a receive found nothing.
+    pub(crate) fn tell_quiet(&mut self, link: u32) -> Result<(), Memory>
+        ensures ok { OnOk result (self.new.events.items ≡ self.old.events.items ++ Quiet link ∷ []) }
+        ensures err { OnErr result (self.new.events.items ≡ self.old.events.items) }
+        ensures live { self.new.live.items ≡ self.old.live.items }
+    {
+        self.tell(LinkEvent::Quiet { link })
+    }
+
+    // Appends an event, where there is room for it beside the ends.
+    fn tell(&mut self, event: LinkEvent) -> Result<(), Memory>
+        ensures ok { OnOk result (self.new.events.items ≡ self.old.events.items ++ event ∷ []) }
+        ensures err { OnErr result (self.new.events.items ≡ self.old.events.items) }
+        ensures live { self.new.live.items ≡ self.old.live.items }
+    {
+        self.events.reserve(self.ends + 1)?;
+        self.events.push(event)?;
+        Ok(())
+    }
+
+    // Ends a link that is live. The room for that is there.
+    #[tactic(auto, using(crate::proofs::Lives::one_fewer))]
+    pub(crate) fn end(&mut self, link: u32)
+        requires { slice_get self.old.live.items link ≡ Some true }
+        ensures events { self.new.events.items ≡ self.old.events.items ++ Ended link ∷ [] }
+        ensures live { self.new.live.items ≡ slice_set self.old.live.items link false }
+    {
+        self.live[link as usize] = false;
+        self.ends -= 1;
+        match self.events.push(LinkEvent::Ended { link }) {
+            Ok(()) => (),
+            Err(_) => unreachable!(),
+        }
+    }
+}
