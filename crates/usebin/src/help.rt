@@ -8,6 +8,7 @@ usage: usebin COMMAND --KEY VALUE ..
 commands:
   encode   writes the yEnc body of a file, or of a part of it, to standard output
   decode   writes the bytes of a saved body to standard output
+  check    reads the index of files in an NZB, and writes what it lists
 
 usebin COMMAND --help says what a command takes, usebin --version which version this is.
 
@@ -48,6 +49,17 @@ Where FILE is no body, or shows damage, nothing is written to standard output, a
                  BODY came: its status line and the block behind it, with doubled dots. Without it `file`.
 ";
 
+const CHECK: &str = "\
+usage: usebin check --nzb FILE
+
+Reads the NZB in FILE, and writes three lines to standard output: how many files it lists, how many segments these have,
+and how many bytes these are said to have.
+Where FILE is no NZB, nothing is written to standard output, and the first reason is told, with its place: how many bytes
+stand before it.
+
+  --nzb FILE   the NZB, of at most 67108864 bytes, 9999 files and 262144 segments
+";
+
 const VERSION: &str = "usebin 0.1.0\n";
 
 /// The text that the words ask for in place of a command, if they do.
@@ -60,6 +72,9 @@ pub(crate) fn help_for(words: &[String]) -> Option<&'static str> {
         }
         [command, second, ..] if command.as_str() == "decode" && second.as_str() == "--help" => {
             Some(DECODE)
+        }
+        [command, second, ..] if command.as_str() == "check" && second.as_str() == "--help" => {
+            Some(CHECK)
         }
         _ => None,
     }

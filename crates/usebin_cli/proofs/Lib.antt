@@ -1,4 +1,5 @@
 pub mod BodyLemmas
+pub mod CheckLemmas
 pub mod KeysLemmas
 pub mod PartLemmas
 pub mod ReadingLemmas

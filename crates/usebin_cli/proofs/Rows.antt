@@ -3,7 +3,7 @@ use Rattle.std.proofs.Common.{◌≡◌, [], ◌∷◌, None, Some, refl}
 use Rattle.std.specs.Prelude.{codes}
 use Rattle.usebin_cli.specs.Body.{limit_of, part_length, part_place, parts_of}
 use Rattle.usebin_cli.specs.CommandLine.{words_of}
-use Rattle.usebin_cli.specs.CommandLine.Command.{Decode, Encode}
+use Rattle.usebin_cli.specs.CommandLine.Command.{Check, Decode, Encode}
 use Rattle.usebin_cli.specs.CommandLine.Words.{Asks, Refused}
 use Rattle.usebin_cli.specs.declared.keys.Form.TheVariants as form
 use Rattle.usebin_cli.specs.declared.encode.Limit.TheVariants.{File, Part, Segments}
@@ -13,7 +13,7 @@ use Rattle.usebin_cli.specs.declared.encode.Limit.TheVariants.{File, Part, Segme
 pub no_word : words_of [] ≡ Refused 1
 no_word = refl
 
-pub unknown_command : words_of (codes "check" ∷ []) ≡ Refused 1
+pub unknown_command : words_of (codes "verify" ∷ []) ≡ Refused 1
 unknown_command = refl
 
 pub nothing_but_defaults : words_of (codes "encode" ∷ codes "--input" ∷ codes "a/d" ∷ []) ≡ Asks (Encode (record { path = codes "a/d"; name = codes "d"; line = 128; part_size = 16777216; part = 1 }))
@@ -55,6 +55,12 @@ name_without_value = refl
 
 pub line_too_long : words_of (codes "encode" ∷ codes "--line" ∷ codes "998" ∷ codes "--input" ∷ codes "d/" ∷ []) ≡ Refused 3
 line_too_long = refl
+
+pub checked_text : words_of (codes "check" ∷ codes "--nzb" ∷ codes "a.nzb" ∷ []) ≡ Asks (Check (codes "a.nzb"))
+checked_text = refl
+
+pub no_text : words_of (codes "check" ∷ codes "--input" ∷ codes "a.nzb" ∷ []) ≡ Refused 2
+no_text = refl
 
 -- ---- parts
 

@@ -1,16 +1,22 @@
 -- What the top call says of its commands' ends: the text on standard error, and why an input is refused.
-use Rattle.std.proofs.Common.{◌≡◌, ℕ, List, [], ◌++◌, Bool, true, false, Option, Some, None, refl, sym, ap, ◌∙◌, inl, inr, arith, append-nil}
+use Rattle.std.proofs.Common.{◌≡◌, ℕ, List, [], ◌++◌, Bool, true, false, Option, Some, None, refl, sym, ap, ◌∙◌, inl, inr, ◌⊎◌, arith, append-nil}
 use Rattle.std.specs.Prelude.{codes}
 use Rattle.ub_base.specs.Sink.{told_and}
 use Rattle.yenc_body.specs.declared.part.Part.{Part}
 use Rattle.yenc_body.specs.declared.fault.Fault.{Fault}
+use Rattle.nzb_index.specs.Nzb.{IsNzb}
+use Rattle.nzb_index.specs.NzbReading.{Refusal}
+use Rattle.nzb_index.specs.Refusal.{HasOneIndex, HasOneRefusal, IsRefused}
+use Rattle.nzb_index.specs.declared.index.Index.{Index}
+use Rattle.nzb_index.proofs.NzbLaws.{one_answer_of}
+use Rattle.usebin_cli.specs.Check.{IsNoIndex, refusal_line}
 use Rattle.usebin_cli.specs.CommandLine.{BodyAsked, PartAsked, Words}
 use Rattle.usebin_cli.specs.CommandLine.Words.{Asks}
-use Rattle.usebin_cli.specs.CommandLine.Command.{Decode, Encode}
-use Rattle.usebin_cli.specs.Decode.{IsDecoded, IsNoBody, IsNoReply, ToldRange, most_text}
+use Rattle.usebin_cli.specs.CommandLine.Command.{Check, Decode, Encode}
+use Rattle.usebin_cli.specs.Decode.{IsDecoded, IsNoBody, IsNoReply, ToldRange}
 use Rattle.usebin_cli.specs.Printed.{fault_line, range_line}
-use Rattle.usebin_cli.specs.Reading.{Reading, Exceeds}
-use Rattle.usebin_cli.specs.Run.{AsksOfBody, AsksOfNoBody, IsErrorText, IsNote, IsNoteAnd, IsOverLimit, line, reply_line}
+use Rattle.usebin_cli.specs.Reading.{Reading, Exceeds, most_text}
+use Rattle.usebin_cli.specs.Run.{IsInGrammar, IsOutsideGrammar, IsErrorText, IsInputLine, IsNote, IsNoteAnd, IsOverLimit, line, reply_line}
 use Rattle.usebin_cli.specs.Writing.{Written, Got, IsUntouched, WroteWhole}
 use Rattle.usebin_cli.specs.declared.reply.ReplyFault.{ReplyFault}
 use Rattle.usebin_cli.proofs.ReplyLemmas.{body_or_no_body, body_or_no_reply}
@@ -44,16 +50,39 @@ told_nothing : (told : Option (List ℕ)) → told ≡ told_and told []
 told_nothing None = refl
 told_nothing (Some bytes) = ap (λ l. Some l) (sym (append-nil bytes))
 
--- `encode` is done, and has told nothing
-pub encoded_text : (words : Words) (files : Option (List (List ℕ × List ℕ))) (r : Reading) (asked : PartAsked) (e : Written) → words ≡ Asks (Encode asked) → IsUntouched e →
-    (text : List ℕ) × IsErrorText words files r 0 text × Got text e
-encoded_text words files r asked e is none =
-    ([], done_text words files r [] (rw is refl), inl (record { faults = none.faults; told = none.told ∙ told_nothing e.told_before }))
+-- `encode` and `check` tell nothing before they write
+pub encode_tells_nothing : (words : Words) (files : Option (List (List ℕ × List ℕ))) (current : Option ℕ) (asked : PartAsked) → words ≡ Asks (Encode asked) → IsNote words files current []
+encode_tells_nothing words files current asked is = rw is refl
 
--- `encode` couldn't write, and has told that
-pub encode_fault_text : (words : Words) (files : Option (List (List ℕ × List ℕ))) (r : Reading) (asked : PartAsked) (e : Written) → words ≡ Asks (Encode asked) →
+pub check_tells_nothing : (words : Words) (files : Option (List (List ℕ × List ℕ))) (current : Option ℕ) (path : List ℕ) → words ≡ Asks (Check path) → IsNote words files current []
+check_tells_nothing words files current path is = rw is refl
+
+-- a command is done, and has told nothing
+pub silent_text : (words : Words) (files : Option (List (List ℕ × List ℕ))) (r : Reading) (e : Written) → IsNote words files r.current [] → IsUntouched e →
+    (text : List ℕ) × IsErrorText words files r 0 text × Got text e
+silent_text words files r e note none =
+    ([], done_text words files r [] note, inl (record { faults = none.faults; told = none.told ∙ told_nothing e.told_before }))
+
+-- an input is refused, and has its line
+pub refused_text : (words : Words) (files : Option (List (List ℕ × List ℕ))) (r : Reading) (status : ℕ) (text : List ℕ) (e : Written) → status ≡ 6 → IsInputLine words files r text → Got text e →
+    (text : List ℕ) × IsErrorText words files r status text × Got text e
+refused_text words files r status text e six is got = (
+  text,
+  record {
+    done = λ e. absurd (omega (arith, six, e));
+    words_refused = λ e. absurd (omega (arith, six, e));
+    input_fault = λ e. absurd (omega (arith, six, e));
+    output_fault = λ e. absurd (omega (arith, six, e));
+    input_refused = λ e. is;
+    memory = λ e. absurd (omega (arith, six, e));
+  },
+  got,
+)
+
+-- one that told nothing couldn't write, and has told that
+pub silent_fault_text : (words : Words) (files : Option (List (List ℕ × List ℕ))) (r : Reading) (e : Written) → IsNote words files r.current [] →
     Got (line (codes "usebin: output fault")) e → (text : List ℕ) × IsErrorText words files r 4 text × Got text e
-encode_fault_text words files r asked e is got = (line (codes "usebin: output fault"), fault_text words files r _ ([], rw is refl, refl), got)
+silent_fault_text words files r e note got = (line (codes "usebin: output fault"), fault_text words files r _ ([], note, refl), got)
 
 told_range : (told : Bool) (p : Part) (e : Written) → ToldRange told p e → Got (range_line p) e
 told_range true p e t = inl t
@@ -107,11 +136,11 @@ pub text_too_long : (words : Words) (asked : BodyAsked) (current : Option ℕ) �
 text_too_long words asked current is over = rw is (line (codes "usebin: limit text 67108864"), (over, refl))
 
 -- a saved text that has no body
-pub text_no_body : (words : Words) (files : Option (List (List ℕ × List ℕ))) (asked : BodyAsked) (current : Option ℕ) (f : Fault) → words ≡ Asks (Decode asked) → IsNoBody asked files current f → AsksOfNoBody words files current
+pub text_no_body : (words : Words) (files : Option (List (List ℕ × List ℕ))) (asked : BodyAsked) (current : Option ℕ) (f : Fault) → words ≡ Asks (Decode asked) → IsNoBody asked files current f → IsOutsideGrammar words files current
 text_no_body words files asked current f is none = rw is (fault_line f, inl (f, none, refl))
 
 -- a saved text that is no reply with a body
-pub text_no_reply : (words : Words) (files : Option (List (List ℕ × List ℕ))) (asked : BodyAsked) (current : Option ℕ) (f : ReplyFault) → words ≡ Asks (Decode asked) → IsNoReply asked files current f → AsksOfNoBody words files current
+pub text_no_reply : (words : Words) (files : Option (List (List ℕ × List ℕ))) (asked : BodyAsked) (current : Option ℕ) (f : ReplyFault) → words ≡ Asks (Decode asked) → IsNoReply asked files current f → IsOutsideGrammar words files current
 text_no_reply words files asked current f is none = rw is (reply_line f, inr (f, none, refl))
 
 same_text : (a b : List ℕ) (o : Option (List ℕ)) → o ≡ Some a → o ≡ Some b → a ≡ b
@@ -119,30 +148,73 @@ same_text a b o e g = cc
 
 -- and one that has a body is none of these
 pub body_not_refused : (words : Words) (files : Option (List (List ℕ × List ℕ))) (asked : BodyAsked) (current : Option ℕ) (f : Fault) → words ≡ Asks (Decode asked) → IsNoBody asked files current f →
-    AsksOfBody words files current → ⊥
+    IsInGrammar words files current → ⊥
 body_not_refused words None asked current f is none body = rw is at body
 body_not_refused words (Some files) asked current f is (text, saved, fault) body = by (rw is at body)
   where
-    by : AsksOfBody (Asks (Decode asked)) (Some files) current → ⊥
+    by : IsInGrammar (Asks (Decode asked)) (Some files) current → ⊥
     by (p, (other, told, decoded), fits) =
         let same : other ≡ text = same_text other text _ told.told saved.told in
         body_or_no_body asked.form text p f (rw same at decoded) fault
 
 pub body_no_reply_fault : (words : Words) (files : Option (List (List ℕ × List ℕ))) (asked : BodyAsked) (current : Option ℕ) (f : ReplyFault) → words ≡ Asks (Decode asked) → IsNoReply asked files current f →
-    AsksOfBody words files current → ⊥
+    IsInGrammar words files current → ⊥
 body_no_reply_fault words None asked current f is none body = rw is at body
 body_no_reply_fault words (Some files) asked current f is (text, saved, fault) body = by (rw is at body)
   where
-    by : AsksOfBody (Asks (Decode asked)) (Some files) current → ⊥
+    by : IsInGrammar (Asks (Decode asked)) (Some files) current → ⊥
     by (p, (other, told, decoded), fits) =
         let same : other ≡ text = same_text other text _ told.told saved.told in
         body_or_no_reply asked.form text p f (rw same at decoded) fault
 
 -- nor is it too long
-pub body_not_too_long : (words : Words) (files : Option (List (List ℕ × List ℕ))) (asked : BodyAsked) (current : Option ℕ) → words ≡ Asks (Decode asked) → Exceeds most_text current → AsksOfBody words files current → ⊥
+pub body_not_too_long : (words : Words) (files : Option (List (List ℕ × List ℕ))) (asked : BodyAsked) (current : Option ℕ) → words ≡ Asks (Decode asked) → Exceeds most_text current → IsInGrammar words files current → ⊥
 body_not_too_long words None asked current is over body = rw is at body
 body_not_too_long words (Some files) asked current is over body = by current over (rw is at body)
   where
-    by : (current : Option ℕ) → Exceeds most_text current → AsksOfBody (Asks (Decode asked)) (Some files) current → ⊥
+    by : (current : Option ℕ) → Exceeds most_text current → IsInGrammar (Asks (Decode asked)) (Some files) current → ⊥
     by None over b = over
     by (Some len) over (p, decoded, fits) = omega (arith, over, fits)
+
+-- ---- an NZB text
+
+pub nzb_too_long : (words : Words) (path : List ℕ) (current : Option ℕ) → words ≡ Asks (Check path) → Exceeds most_text current → IsOverLimit words current
+nzb_too_long words path current is over = rw is (line (codes "usebin: limit text 67108864"), (over, refl))
+
+-- a text that is no NZB, or passes a limit
+pub no_nzb : (words : Words) (files : Option (List (List ℕ × List ℕ))) (path : List ℕ) (current : Option ℕ) (refusal : Refusal) → words ≡ Asks (Check path) → IsNoIndex path files current refusal → IsOutsideGrammar words files current
+no_nzb words files path current refusal is none = rw is (refusal_line refusal, (refusal, none, refl))
+
+-- and its line
+pub no_nzb_line : (words : Words) (files : Option (List (List ℕ × List ℕ))) (path : List ℕ) (r : Reading) (refusal : Refusal) → words ≡ Asks (Check path) → IsNoIndex path files r.current refusal → IsInputLine words files r (refusal_line refusal)
+no_nzb_line words files path r refusal is none = rw is (inr (inr (refusal, none, refl)))
+
+nzb_not_refused : (text : List ℕ) (index : Index) (refusal : Refusal) → IsNzb text index → IsRefused text refusal → ⊥
+nzb_not_refused text index refusal is refused = by (one_answer_of text)
+  where
+    by : ((i : Index) × HasOneIndex text i) ⊎ ((e : Refusal) × HasOneRefusal text e) → ⊥
+    by (inl (i, one)) = one.no_refusal refusal refused
+    by (inr (e, one)) = one.no_index index is
+
+-- and one that is an NZB is none of these
+pub nzb_is_not_refused : (words : Words) (files : Option (List (List ℕ × List ℕ))) (path : List ℕ) (current : Option ℕ) (refusal : Refusal) → words ≡ Asks (Check path) → IsNoIndex path files current refusal →
+    IsInGrammar words files current → ⊥
+nzb_is_not_refused words None path current refusal is none inside = rw is at inside
+nzb_is_not_refused words (Some files) path current refusal is (text, saved, refused) inside = by (rw is at inside)
+  where
+    by : IsInGrammar (Asks (Check path)) (Some files) current → ⊥
+    by (index, (other, told, listed)) =
+        let same : other ≡ text = same_text other text _ told.told saved.told in
+        nzb_not_refused text index refusal (rw same at listed) refused
+
+-- nor is it too long
+pub nzb_is_not_too_long : (words : Words) (files : Option (List (List ℕ × List ℕ))) (path : List ℕ) (current : Option ℕ) → words ≡ Asks (Check path) → Exceeds most_text current → IsInGrammar words files current → ⊥
+nzb_is_not_too_long words None path current is over inside = rw is at inside
+nzb_is_not_too_long words (Some files) path current is over inside = by current over (rw is at inside)
+  where
+    by : (current : Option ℕ) → Exceeds most_text current → IsInGrammar (Asks (Check path)) (Some files) current → ⊥
+    by None over b = over
+    by (Some len) over (index, (text, saved, listed)) = omega (arith, over, some_same saved.size, listed.short)
+      where
+        some_same : {m n : ℕ} → Some m ≡ Some n → m ≡ n
+        some_same e = cc

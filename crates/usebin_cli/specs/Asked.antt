@@ -2,13 +2,14 @@
 use Rattle.std.specs.Prelude.{◌≡◌, ◌+◌, ◌≤◌, ◌++◌, ◌∷◌, [], ℕ, Bool, List, drop, get_or, length, take, is_some, Result, Ok, Err}
 use Rattle.usebin_cli.specs.CommandLine.{BodyAsked, PartAsked, Words}
 use Rattle.usebin_cli.specs.CommandLine.Words.{Asks, Refused}
-use Rattle.usebin_cli.specs.CommandLine.Command.{Decode, Encode}
+use Rattle.usebin_cli.specs.CommandLine.Command.{Check, Decode, Encode}
 use Rattle.usebin_cli.specs.Keys.{Key, form_of, is_header_name, is_named_path, is_path, number_in, pairs_of}
 use Rattle.usebin_cli.specs.declared.keys.Key.{Key as TableKey}
 use Rattle.usebin_cli.specs.declared.keys.Rule.{Rule}
 use Rattle.usebin_cli.specs.declared.keys.Rule.TheVariants.{Form, HeaderName, NamedPath, Number, Path}
 use Rattle.usebin_cli.specs.declared.words.Command.{Command}
 use Rattle.usebin_cli.specs.declared.words.Command.TheVariants as given
+use Rattle.usebin_cli.specs.declared.words.CheckWords.{CheckWords}
 use Rattle.usebin_cli.specs.declared.words.DecodeWords.{DecodeWords}
 use Rattle.usebin_cli.specs.declared.words.EncodeWords.{EncodeWords}
 
@@ -68,6 +69,7 @@ pub record IsEncodeAllowed (asked : EncodeWords) : Type 0 where
 abbrev pub IsAllowed : Command → Type 0
 IsAllowed (given.Encode asked) = IsEncodeAllowed asked
 IsAllowed (given.Decode asked) = Unit {0}
+IsAllowed (given.Check asked) = Unit {0}
 
 -- the words behind `encode` ask for what was answered, or the word of the answered number is the first that is refused
 abbrev pub ReadsEncode : Words → Result EncodeWords ℕ → Type 0
@@ -79,8 +81,14 @@ abbrev pub ReadsDecode : Words → Result DecodeWords ℕ → Type 0
 ReadsDecode words (Ok asked) = words ≡ Asks (Decode (body_asked asked))
 ReadsDecode words (Err number) = words ≡ Refused number
 
+-- the same of the words behind `check`
+abbrev pub ReadsCheck : Words → Result CheckWords ℕ → Type 0
+ReadsCheck words (Ok asked) = words ≡ Asks (Check asked.path.now)
+ReadsCheck words (Err number) = words ≡ Refused number
+
 -- the same of all words
 abbrev pub ReadsCommand : Words → Result Command ℕ → Type 0
 ReadsCommand words (Ok (given.Encode asked)) = words ≡ Asks (Encode (asked_of asked))
 ReadsCommand words (Ok (given.Decode asked)) = words ≡ Asks (Decode (body_asked asked))
+ReadsCommand words (Ok (given.Check asked)) = words ≡ Asks (Check asked.path.now)
 ReadsCommand words (Err number) = words ≡ Refused number

@@ -20,10 +20,11 @@ pub record BodyAsked : Type 0 where
   pub path : List ℕ
   pub form : Form
 
--- what the words ask for: the body of a part of a file, or the bytes of a saved body
+-- what the words ask for: the body of a part of a file, the bytes of a saved body, or what the NZB text at a path lists
 pub data Command : Type 0 where
   Encode : (asked : PartAsked) → Command
   Decode : (asked : BodyAsked) → Command
+  Check : (path : List ℕ) → Command
 
 -- what the words ask for, or the number of the first word that is refused, counted from 1
 pub data Words : Type 0 where
@@ -100,12 +101,26 @@ decode_asked pairs = option_map (λ path. Decode (record { path = path; form = f
 abbrev pub decode_of : List (List ℕ) → Words
 decode_of words = command_of decode_keys decode_asked words
 
+-- ---- check
+
+abbrev pub check_keys : List Key
+check_keys = record { word = codes "--nzb"; takes = is_path } ∷ []
+
+abbrev pub check_asked : List (List ℕ × List ℕ) → Option Command
+check_asked pairs = option_map (λ path. Check path) (value_of (codes "--nzb") pairs)
+
+abbrev pub check_of : List (List ℕ) → Words
+check_of words = command_of check_keys check_asked words
+
 -- ---- all words
 
 abbrev pub words_of : List (List ℕ) → Words
 words_of [] = Refused 1
 words_of (command ∷ words) =
-    if bytes_eq command (codes "encode") then encode_of words else if bytes_eq command (codes "decode") then decode_of words else Refused 1
+    if bytes_eq command (codes "encode") then encode_of words
+    else if bytes_eq command (codes "decode") then decode_of words
+    else if bytes_eq command (codes "check") then check_of words
+    else Refused 1
 
 -- the words are refused
 abbrev pub IsRefused : Words → Type 0

@@ -1,5 +1,5 @@
 -- How `decode` ends.
-use Rattle.std.specs.Prelude.{◌≡◌, ℕ, List, length, Bool, true, false, Option, Some, Result, Ok, Err, ⊤}
+use Rattle.std.specs.Prelude.{◌≡◌, ℕ, List, Bool, true, false, Option, Result, Ok, Err, ⊤}
 use Rattle.yenc_body.specs.Body.{IsBody}
 use Rattle.yenc_body.specs.FirstFault.{IsFirstFault}
 use Rattle.yenc_body.specs.Text.{text_lines}
@@ -8,7 +8,7 @@ use Rattle.yenc_body.specs.declared.fault.Fault.{Fault}
 use Rattle.usebin_cli.specs.CommandLine.{BodyAsked}
 use Rattle.usebin_cli.specs.Printed.{range_line}
 use Rattle.usebin_cli.specs.Reply.{HasReplyFault, IsBodyReply}
-use Rattle.usebin_cli.specs.Reading.{Reading, IsFaultless, IsShortAt, HasFailed, IsBelow, Fits, Exceeds, IsReadOrOpen, IsFileAt}
+use Rattle.usebin_cli.specs.Reading.{Reading, IsFaultless, IsShortAt, HasFailed, IsBelow, Fits, Exceeds, IsReadOrOpen, IsSaved, most_text}
 use Rattle.usebin_cli.specs.Writing.{Written, IsUntouched, WroteWhole, WroteFront}
 use Rattle.usebin_cli.specs.declared.decode.DecodeEnd.{DecodeEnd}
 use Rattle.usebin_cli.specs.declared.decode.DecodeEnd.TheVariants.{Done, Memory, InputFault, Short, TextLimit, NoBody, NoReply, OutputFault}
@@ -19,15 +19,6 @@ use Rattle.usebin_cli.specs.declared.reply.ReplyError.TheVariants as replies
 use Rattle.usebin_cli.specs.declared.reply.ReplyFault.{ReplyFault}
 use Rattle.usebin_cli.specs.declared.keys.Form.{Form}
 use Rattle.usebin_cli.specs.declared.keys.Form.TheVariants.{File, Wire}
-
--- how many bytes a saved text may have
-abbrev pub most_text : ℕ
-most_text = 67108864
-
--- The text that the input tells at a path, as many bytes as the opened file has.
-pub record IsSaved (path : List ℕ) (files : Option (List (List ℕ × List ℕ))) (current : Option ℕ) (text : List ℕ) : Type 0 where
-  pub told : IsFileAt path files text
-  pub size : current ≡ Some (length text)
 
 -- the lines of a body as it was saved: those of a file, or those in a reply off the wire
 abbrev pub IsSavedAs : Form → List ℕ → List (List ℕ) → Type 0

@@ -1,5 +1,6 @@
 pub mod Asked
 pub mod Body
+pub mod Check
 pub mod CommandLine
 pub mod Decode
 pub mod Encode

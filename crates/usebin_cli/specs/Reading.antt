@@ -78,6 +78,15 @@ abbrev pub IsFileAt : List ℕ → Option (List (List ℕ × List ℕ)) → List
 IsFileAt path None bytes = ⊤
 IsFileAt path (Some files) bytes = file_of path files ≡ Some bytes
 
+-- how many bytes a saved text may have
+abbrev pub most_text : ℕ
+most_text = 67108864
+
+-- The text that the input tells at a path, as many bytes as the opened file has.
+pub record IsSaved (path : List ℕ) (files : Option (List (List ℕ × List ℕ))) (current : Option ℕ) (text : List ℕ) : Type 0 where
+  pub told : IsFileAt path files text
+  pub size : current ≡ Some (length text)
+
 -- the bytes are those of the current file from a place on, where the input tells these
 abbrev pub IsPiece : Option (List ℕ) → ℕ → List ℕ → Type 0
 IsPiece None place bytes = ⊤

@@ -4,13 +4,16 @@ use Rattle.std.specs.Fmt.{decimal}
 use Rattle.ub_base.specs.Causes.{Rose}
 use Rattle.usebin_cli.specs.CommandLine.{Words}
 use Rattle.usebin_cli.specs.CommandLine.Words.{Asks, Refused}
-use Rattle.usebin_cli.specs.CommandLine.Command.{Decode, Encode}
+use Rattle.usebin_cli.specs.CommandLine.Command.{Check, Decode, Encode}
 use Rattle.yenc_body.specs.declared.part.Part.{Part as BodyPart}
 use Rattle.yenc_body.specs.declared.fault.Fault.{Fault}
-use Rattle.usebin_cli.specs.Decode.{IsDecoded, IsNoBody, IsNoReply, most_text}
+use Rattle.nzb_index.specs.NzbReading.{Refusal}
+use Rattle.nzb_index.specs.declared.index.Index.{Index}
+use Rattle.usebin_cli.specs.Check.{IsListed, IsNoIndex, counts_of, counts_text, refusal_line}
+use Rattle.usebin_cli.specs.Decode.{IsDecoded, IsNoBody, IsNoReply}
 use Rattle.usebin_cli.specs.Encode.{IsAskedCall, IsEncoded, IsInPart, IsOver}
 use Rattle.usebin_cli.specs.Printed.{fault_line, range_line}
-use Rattle.usebin_cli.specs.Reading.{Reading, HasFailed, IsReadOrOpen, IsBelow, Fits, Exceeds}
+use Rattle.usebin_cli.specs.Reading.{Reading, HasFailed, IsReadOrOpen, IsBelow, Fits, Exceeds, most_text}
 use Rattle.usebin_cli.specs.declared.reply.ReplyFault.{ReplyFault}
 use Rattle.usebin_cli.specs.declared.reply.ReplyFault.TheVariants.{NoReply, Code, Unfinished, Rest}
 use Rattle.usebin_cli.specs.declared.encode.Limit.{Limit}
@@ -22,6 +25,7 @@ abbrev pub IsTextFor : Words → Option (List (List ℕ × List ℕ)) → Readin
 IsTextFor (Refused number) files r text = ⊥
 IsTextFor (Asks (Encode asked)) files r text = IsEncoded asked files r.current text
 IsTextFor (Asks (Decode asked)) files r text = (p : BodyPart) × IsDecoded asked files r.current p × (text ≡ p.content)
+IsTextFor (Asks (Check path)) files r text = (index : Index) × IsListed path files r.current index × (text ≡ counts_text (counts_of index))
 
 -- the text that the words ask for was written so
 abbrev pub Wrote : (List ℕ → Written → Type 0) → Words → Option (List (List ℕ × List ℕ)) → Reading → Written → Type 0
@@ -33,6 +37,7 @@ abbrev pub InputFailed : Words → Reading → Type 0
 InputFailed (Refused number) r = ⊥
 InputFailed (Asks (Encode asked)) r = HasFailed (IsAskedCall asked r.current) r
 InputFailed (Asks (Decode asked)) r = HasFailed (IsReadOrOpen asked.path) r
+InputFailed (Asks (Check path)) r = HasFailed (IsReadOrOpen path) r
 
 -- a text with the end of its line
 abbrev pub line : List ℕ → List ℕ
@@ -61,31 +66,37 @@ abbrev pub IsLimitLine : Words → Option ℕ → List ℕ → Type 0
 IsLimitLine (Refused number) current text = ⊥
 IsLimitLine (Asks (Encode asked)) current text = (limit : Limit) × IsOver asked current limit × (text ≡ limit_line limit)
 IsLimitLine (Asks (Decode asked)) current text = Exceeds most_text current × (text ≡ line (codes "usebin: limit text 67108864"))
+IsLimitLine (Asks (Check path)) current text = Exceeds most_text current × (text ≡ line (codes "usebin: limit text 67108864"))
 
 -- the words ask for what goes past a limit of a file of this length
 abbrev pub IsOverLimit : Words → Option ℕ → Type 0
 IsOverLimit words current = (text : List ℕ) × IsLimitLine words current text
 
--- the words ask for the byte at this place of a file of this length: `encode` for those of a part, `decode` for all
+-- the words ask for the byte at this place of a file of this length: `encode` for those of a part, the others for all
 abbrev pub IsAskedPlace : Words → Option ℕ → ℕ → Type 0
 IsAskedPlace (Refused number) current place = ⊥
 IsAskedPlace (Asks (Encode asked)) current place = IsInPart asked current place
 IsAskedPlace (Asks (Decode asked)) current place = IsBelow current place
+IsAskedPlace (Asks (Check path)) current place = IsBelow current place
 
--- the line for a text that the words ask the bytes of, and that has no body or is no reply with one
+-- the line for a text that is not in the grammar of what the words ask for: one that is to be decoded and has no body or is
+-- no reply with one, or one that is to be checked and is no NZB, or passes a limit of its files or segments
 abbrev pub IsFaultLine : Words → Option (List (List ℕ × List ℕ)) → Option ℕ → List ℕ → Type 0
 IsFaultLine (Asks (Decode asked)) files current text =
     ((f : Fault) × IsNoBody asked files current f × (text ≡ fault_line f)) ⊎ ((f : ReplyFault) × IsNoReply asked files current f × (text ≡ reply_line f))
+IsFaultLine (Asks (Check path)) files current text = (refusal : Refusal) × IsNoIndex path files current refusal × (text ≡ refusal_line refusal)
 IsFaultLine other files current text = ⊥
 
--- the words ask for the bytes of a body, and what is at their path has none
-abbrev pub AsksOfNoBody : Words → Option (List (List ℕ × List ℕ)) → Option ℕ → Type 0
-AsksOfNoBody words files current = (text : List ℕ) × IsFaultLine words files current text
+-- what is at the path in the words is not in the grammar of what they ask for
+abbrev pub IsOutsideGrammar : Words → Option (List (List ℕ × List ℕ)) → Option ℕ → Type 0
+IsOutsideGrammar words files current = (text : List ℕ) × IsFaultLine words files current text
 
--- the words ask for the bytes of a body, and a body within the limits is what the input tells at their path
-abbrev pub AsksOfBody : Words → Option (List (List ℕ × List ℕ)) → Option ℕ → Type 0
-AsksOfBody (Asks (Decode asked)) (Some files) current = (p : BodyPart) × IsDecoded asked (Some files) current p × Fits most_text current
-AsksOfBody other files current = ⊥
+-- what the input tells at the path in the words is in the grammar of what they ask for, and within the limits: a body that is
+-- to be decoded, or an NZB that is to be checked
+abbrev pub IsInGrammar : Words → Option (List (List ℕ × List ℕ)) → Option ℕ → Type 0
+IsInGrammar (Asks (Decode asked)) (Some files) current = (p : BodyPart) × IsDecoded asked (Some files) current p × Fits most_text current
+IsInGrammar (Asks (Check path)) (Some files) current = (index : Index) × IsListed path (Some files) current index
+IsInGrammar other files current = ⊥
 
 -- the line for an input that is refused: a read gave no byte where the words ask for one, a limit is passed, or a text is
 -- no body

@@ -7,16 +7,13 @@ ghost use Rattle.usebin_cli.specs.Writing.{written};
 
 use crate::keys::Form;
 use crate::printed::write_range;
-use crate::reading::{ReadError, read_file};
+use crate::reading::{MOST_TEXT, ReadError, read_file};
 use crate::reply::{ReplyError, ReplyFault, reply_lines};
 use crate::words::DecodeWords;
 use crate::writing::write_all;
 use std::alloc::Global;
 use ub_base::{Bytes, Failed, Input, Lines, Memory, Sink};
 use yenc_body::{BodyError, Fault, Part, read_body, split_text};
-
-// How many bytes a saved text may have.
-const MOST_TEXT: u64 = 67_108_864;
 
 /// How `decode` ended.
 #[derive(Clone, Copy, Debug, PartialEq, Eq)]

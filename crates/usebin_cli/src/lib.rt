@@ -2,6 +2,7 @@
 #![tactic(auto)]
 
 mod body;
+mod check;
 mod decode;
 mod encode;
 mod keys;

@@ -1,11 +1,14 @@
-// The lines that `decode` prints on standard error.
+// The lines that are printed, each made in one buffer.
 ghost use Rattle.std.specs.Prelude.{◌≡◌, ◌≤◌, ◌+◌, ◌++◌, length, take, codes};
 ghost use Rattle.std.specs.Fmt.{decimal};
 ghost use Rattle.crc_field.specs.Hex.{hex_digits};
 ghost use Rattle.yenc_lines.specs.Keywords.{key_name};
+ghost use Rattle.usebin_cli.specs.Check.{counts_text, nzb_reason_text, place_line};
 ghost use Rattle.usebin_cli.specs.Printed.{fault_line, key_fault_text, range_line, reason_text, with_value, with_values};
 
+use crate::check::Counts;
 use crc_field::write_hex;
+use nzb_index::NzbReason;
 use ub_base::write_dec;
 use yenc_body::{Fault, Part, Reason};
 use yenc_lines::{Key, KeyFault};
@@ -40,6 +43,34 @@ pub(crate) fn write_range(part: &Part, out: &mut LineBuffer) -> usize
     let at = put_number(out, at, part.last);
     let at = put(out, at, b" of ");
     let at = put_number(out, at, part.begin.size);
+    put(out, at, b"\n")
+}
+
+/// Writes the line of a text that is refused for a reason at a place to the front of a buffer, and answers its length.
+#[tactic(auto, unfolding(crate::specs::Check::place_line))]
+pub(crate) fn write_place(place: usize, reason: NzbReason, out: &mut LineBuffer) -> usize
+    ensures text { take result out.new ≡ place_line place reason }
+    ensures room { result ≤ 160 }
+{
+    let at = put(out, 0, b"usebin: place ");
+    let at = put_number(out, at, place as u64);
+    let at = put(out, at, b" ");
+    let at = put_nzb_reason(out, at, reason);
+    put(out, at, b"\n")
+}
+
+/// Writes the lines of an index's counts to the front of a buffer, and answers their length.
+#[tactic(auto, unfolding(crate::specs::Check::counts_text))]
+pub(crate) fn write_counts(counts: Counts, out: &mut LineBuffer) -> usize
+    ensures text { take result out.new ≡ counts_text counts }
+    ensures room { result ≤ 160 }
+{
+    let at = put(out, 0, b"files ");
+    let at = put_number(out, at, counts.files);
+    let at = put(out, at, b"\nsegments ");
+    let at = put_number(out, at, counts.segments);
+    let at = put(out, at, b"\nbytes ");
+    let at = put_number(out, at, counts.bytes);
     put(out, at, b"\n")
 }
 
@@ -89,6 +120,25 @@ fn put_reason(out: &mut LineBuffer, at: usize, reason: Reason) -> usize
         Reason::EndSize(there, here) => put_numbers(out, at, b"EndSize", there, here),
         Reason::TooFew(count, wanted) => put_numbers(out, at, b"TooFew", count, wanted),
         Reason::CrcDiffers(said, crc) => put_crcs(out, at, said, crc),
+    }
+}
+
+// Puts the name of a reason.
+fn put_nzb_reason(out: &mut LineBuffer, at: usize, reason: NzbReason) -> usize
+    requires { at + 64 ≤ 160 }
+    ensures text { take result out.new ≡ take at out.old ++ nzb_reason_text reason }
+    ensures end { result ≤ at + 64 }
+{
+    match reason {
+        NzbReason::Ended => put(out, at, b"Ended"),
+        NzbReason::Unexpected => put(out, at, b"Unexpected"),
+        NzbReason::BadReference => put(out, at, b"BadReference"),
+        NzbReason::WrongTag => put(out, at, b"WrongTag"),
+        NzbReason::DoubleAttribute => put(out, at, b"DoubleAttribute"),
+        NzbReason::NoNumber => put(out, at, b"NoNumber"),
+        NzbReason::BadNumber => put(out, at, b"BadNumber"),
+        NzbReason::BadId => put(out, at, b"BadId"),
+        NzbReason::Subset => put(out, at, b"Subset"),
     }
 }
 

@@ -5,6 +5,9 @@ ghost use Rattle.usebin_cli.specs.Reading.{reading, IsFileAt, IsPiece, IsReadOrO
 use std::alloc::Global;
 use ub_base::{Bytes, Failed, Input, Memory};
 
+/// How many bytes a saved text may have.
+pub(crate) const MOST_TEXT: u64 = 67_108_864;
+
 // How many bytes are asked of the input at once.
 const PIECE: usize = 65_536;
 

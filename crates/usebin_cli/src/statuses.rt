@@ -1,14 +1,16 @@
 // The status of each end of a command, and its line on standard error.
 ghost use Rattle.std.specs.Prelude.{◌≡◌, ◌++◌, ◌∷◌, [], codes};
 ghost use Rattle.std.specs.Fmt.{decimal};
+ghost use Rattle.usebin_cli.specs.Check.{nzb_limit_line, place_line};
 ghost use Rattle.usebin_cli.specs.Printed.{fault_line};
 ghost use Rattle.usebin_cli.specs.Run.{limit_line, line, reply_line};
 ghost use Rattle.usebin_cli.specs.Writing.{written, Got};
 
 use crate::encode::Limit;
-use crate::printed::write_fault;
+use crate::printed::{write_fault, write_place};
 use crate::reply::ReplyFault;
 use crate::writing::{say, say_numbered};
+use nzb_index::{NzbLimit, NzbReason};
 use ub_base::Sink;
 use yenc_body::Fault;
 
@@ -91,6 +93,30 @@ pub(crate) fn no_reply<E: Sink>(fault: ReplyFault, err: &mut E) -> u8
         ReplyFault::Code(code) => say_numbered(err, b"usebin: reply Code ", u64::from(code)),
         ReplyFault::Unfinished => say(err, b"usebin: reply Unfinished\n"),
         ReplyFault::Rest => say(err, b"usebin: reply Rest\n"),
+    }
+    6
+}
+
+/// A text is no NZB.
+pub(crate) fn no_index<E: Sink>(place: usize, reason: NzbReason, err: &mut E) -> u8
+    ensures status { result ≡ 6 }
+    ensures text { Got (place_line place reason) (written E.faults E.told err.old err.new) }
+{
+    let mut buffer = [0; 160];
+    let len = write_place(place, reason, &mut buffer);
+    say(err, &buffer[..len]);
+    6
+}
+
+/// An NZB text passes a limit.
+pub(crate) fn over_nzb_limit<E: Sink>(limit: NzbLimit, err: &mut E) -> u8
+    ensures status { result ≡ 6 }
+    ensures text { Got (nzb_limit_line limit) (written E.faults E.told err.old err.new) }
+{
+    match limit {
+        NzbLimit::TextBytes => say(err, b"usebin: limit text 67108864\n"),
+        NzbLimit::Files => say(err, b"usebin: limit files 9999\n"),
+        NzbLimit::Segments => say(err, b"usebin: limit segments 262144\n"),
     }
     6
 }

@@ -3,14 +3,15 @@ ghost use Rattle.std.specs.Prelude.{◌≡◌, ◌≢◌, ◌≤◌, ◌<◌, �
 ghost use Rattle.ub_base.specs.Causes.{Rose};
 ghost use Rattle.usebin_cli.specs.CommandLine.{words_of, IsRefused};
 ghost use Rattle.usebin_cli.specs.Reading.{reading};
-ghost use Rattle.usebin_cli.specs.Run.{Wrote, InputFailed, IsErrorText, IsOverLimit, AsksOfBody, AsksOfNoBody};
+ghost use Rattle.usebin_cli.specs.Run.{Wrote, InputFailed, IsErrorText, IsInGrammar, IsOutsideGrammar, IsOverLimit};
 ghost use Rattle.usebin_cli.specs.Writing.{written, Got, IsUntouched, WroteFront, WroteWhole};
 
+use crate::check::{CheckEnd, check};
 use crate::decode::{DecodeEnd, decode};
 use crate::encode::{EncodeEnd, encode};
 use crate::statuses::{
-    input_fault, no_body, no_memory, no_reply, output_fault, over_limit, short, text_too_long,
-    words_refused,
+    input_fault, no_body, no_index, no_memory, no_reply, output_fault, over_limit, over_nzb_limit,
+    short, text_too_long, words_refused,
 };
 use crate::words::{Command, read_words};
 use std::alloc::Global;
@@ -27,7 +28,7 @@ use ub_base::{Input, Links, Sink, Store};
 /// | 2 | exactly where the words are refused |
 /// | 3 | only where the count of faults of `input` rose |
 /// | 4 | only where the count of faults of `out` rose |
-/// | 6 | exactly where a read gave no byte below the file's length, or the file or its asked part goes past a limit |
+/// | 6 | exactly where a read gave no byte below the file's length, the file or its asked part goes past a limit, or a text isn't in the grammar that is asked for |
 /// | 7 | want of memory, at any moment after the words are read |
 #[allow(clippy::too_many_arguments)]
 pub fn usebin<I: Input, T: Store, L: Links, O: Sink, E: Sink>(
@@ -59,10 +60,10 @@ pub fn usebin<I: Input, T: Store, L: Links, O: Sink, E: Sink>(
     ensures output_count { O.faults out.old < O.faults out.new → (result ≡ 4) ⊎ (result ≡ 7) }
 
     // 6: exactly where a read gave no byte below the file's length, the file or what is asked of it goes past a limit, or
-    // what is to be decoded has no body.
+    // what is to be decoded has no body, or what is to be checked is no NZB.
     ensures input_refused { result ≡ 6 → Rose (I.shorts input.old) (I.shorts input.new) ⊎ (IsOverLimit (words_of (map string_bytes words.now)) (I.current input.new)
-        ⊎ AsksOfNoBody (words_of (map string_bytes words.now)) (I.files input.old) (I.current input.new)) }
-    ensures body { AsksOfBody (words_of (map string_bytes words.now)) (I.files input.old) (I.current input.new) → result ≡ 6 → Rose (I.shorts input.old) (I.shorts input.new) }
+        ⊎ IsOutsideGrammar (words_of (map string_bytes words.now)) (I.files input.old) (I.current input.new)) }
+    ensures in_grammar { IsInGrammar (words_of (map string_bytes words.now)) (I.files input.old) (I.current input.new) → result ≡ 6 → Rose (I.shorts input.old) (I.shorts input.new) }
     ensures short { I.shorts input.old < I.shorts input.new → (result ≡ 6) ⊎ (result ≡ 7) }
     ensures over_limit { IsOverLimit (words_of (map string_bytes words.now)) (I.current input.new) → result ≡ 6 }
 
@@ -99,6 +100,16 @@ pub fn usebin<I: Input, T: Store, L: Links, O: Sink, E: Sink>(
             DecodeEnd::OutputFault(true) => output_fault(err),
             // A write to `err` failed before, and nothing more is written to it.
             DecodeEnd::OutputFault(false) => 4,
+        },
+        Ok(Command::Check(asked)) => match check(alloc, asked, input, out) {
+            CheckEnd::Done => 0,
+            CheckEnd::Memory => no_memory(err),
+            CheckEnd::InputFault => input_fault(err),
+            CheckEnd::Short(place) => short(place, err),
+            CheckEnd::TextLimit => text_too_long(err),
+            CheckEnd::Refused { place, reason } => no_index(place, reason, err),
+            CheckEnd::Limit(limit) => over_nzb_limit(limit, err),
+            CheckEnd::OutputFault => output_fault(err),
         },
     }
 }

@@ -1,9 +1,9 @@
 // The words of the command line, read by hand: a repeated key and a missing value have answers of their own.
 ghost use Rattle.std.specs.Prelude.{◌≡◌, true, codes, map, string_bytes, IfOk};
 ghost use Rattle.std.specs.Option.{unwrap_or};
-ghost use Rattle.usebin_cli.specs.CommandLine.{decode_of, encode_keys, encode_of, refused_number, words_of};
+ghost use Rattle.usebin_cli.specs.CommandLine.{check_of, decode_of, encode_keys, encode_of, refused_number, words_of};
 ghost use Rattle.usebin_cli.specs.Keys.{file_name as file_name_of, is_header_name, value_of};
-ghost use Rattle.usebin_cli.specs.Asked.{IsAllowed, IsEncodeAllowed, ReadsCommand, ReadsDecode, ReadsEncode, key_model, paired};
+ghost use Rattle.usebin_cli.specs.Asked.{IsAllowed, IsEncodeAllowed, ReadsCheck, ReadsCommand, ReadsDecode, ReadsEncode, key_model, paired};
 
 use crate::keys::{
     Form, Key, Rule, check_pairs, file_name, form_or_file, has_key, number_or, value_in,
@@ -25,6 +25,8 @@ pub(crate) enum Command<'a> {
     Encode(EncodeWords<'a>),
     /// The bytes of a saved body.
     Decode(DecodeWords<'a>),
+    /// What the NZB text at a path lists.
+    Check(CheckWords<'a>),
 }
 
 /// What `encode` is asked for.
@@ -51,6 +53,13 @@ pub(crate) struct DecodeWords<'a> {
     pub(crate) form: Form,
 }
 
+/// What `check` is asked for.
+#[derive(Clone, Copy, Debug, Drop)]
+pub(crate) struct CheckWords<'a> {
+    /// The path of the NZB text.
+    pub(crate) path: &'a str,
+}
+
 /// What the words ask for, or the number of the first word that is refused, counted from 1.
 pub(crate) fn read_words(words: &[String]) -> Result<Command<'_>, u64>
     ensures words { ReadsCommand (words_of (map string_bytes words.now)) result }
@@ -66,6 +75,10 @@ pub(crate) fn read_words(words: &[String]) -> Result<Command<'_>, u64>
         },
         "decode" => match read_decode(rest) {
             Ok(asked) => Ok(Command::Decode(asked)),
+            Err(number) => Err(number),
+        },
+        "check" => match read_check(rest) {
+            Ok(asked) => Ok(Command::Check(asked)),
             Err(number) => Err(number),
         },
         _ => Err(1),
@@ -189,6 +202,23 @@ fn read_decode(words: &[String]) -> Result<DecodeWords<'_>, u64>
             path,
             form: form_or_file(words, "--form"),
         }),
+        None => Err(words.len() as u64 + 2),
+    }
+}
+
+// What the words behind `check` ask for.
+fn read_check(words: &[String]) -> Result<CheckWords<'_>, u64>
+    ensures { ReadsCheck (check_of (map string_bytes words.now)) result }
+{
+    let keys = [Key {
+        word: "--nzb",
+        rule: Rule::Path,
+    }];
+    if let Err(number) = check_pairs(&keys, words) {
+        return Err(number);
+    }
+    match value_in(words, "--nzb") {
+        Some(path) => Ok(CheckWords { path }),
         None => Err(words.len() as u64 + 2),
     }
 }

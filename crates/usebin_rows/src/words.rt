@@ -13,7 +13,7 @@ const TOO_LONG: &str =
 
 #[test]
 fn knows_each_command(rt: HostRuntime) -> Result<(), Fail> {
-    let rows: [(&[&str], Option<u64>); 14] = [
+    let rows: [(&[&str], Option<u64>); 19] = [
         (&[], Some(1)),
         (&["verify"], Some(1)),
         (&["encode"], Some(2)),
@@ -28,6 +28,11 @@ fn knows_each_command(rt: HostRuntime) -> Result<(), Fail> {
         (&["decode", "--form", "file", "--input", "d"], None),
         (&["decode", "--input", "d", "--form", "nzb"], Some(5)),
         (&["decode", "--form", "wire"], Some(4)),
+        (&["check"], Some(2)),
+        (&["check", "--nzb"], Some(3)),
+        (&["check", "--nzb", ""], Some(3)),
+        (&["check", "--nzb", "a"], None),
+        (&["check", "--nzb", "a", "--input", "a"], Some(4)),
     ];
     for (words, number) in rows {
         let words = words_of(rt.alloc(), words)?;

@@ -1,17 +1,19 @@
 use Rattle.std.proofs.Common.{refl, inl, inr}
+use Rattle.nzb_index.specs.NzbReading.{refused_at, past}
 use Rattle.usebin_cli.specs.Asked.{asked_of, body_asked}
+use Rattle.usebin_cli.specs.Reading.{reading}
 use Rattle.usebin_cli.proofs.RunLemmas.{over_limit}
-use Rattle.usebin_cli.proofs.TopLemmas.{body_no_reply_fault, body_not_refused, body_not_too_long, decode_fault_half_text, decode_fault_text, decoded_text, encode_fault_text, encoded_text, text_no_body, text_no_reply, text_too_long}
+use Rattle.usebin_cli.proofs.TopLemmas.{body_no_reply_fault, body_not_refused, body_not_too_long, decode_fault_half_text, decode_fault_text, check_tells_nothing, decoded_text, encode_tells_nothing, no_nzb, nzb_is_not_refused, nzb_is_not_too_long, no_nzb_line, nzb_too_long, refused_text, silent_fault_text, silent_text, text_no_body, text_no_reply, text_too_long}
 use Rattle.usebin_cli.proofs.top.usebin.Goals as goal
 
 pub returns-in-Done-clause-error_text : goal.returns-in-Done-clause-error_text
 returns-in-Done-clause-error_text g c =
-    encoded_text _ _ _ (asked_of c.in-Ok-Encode.asked) _ (rw c.in-Ok-Encode.field-0-is at c.in-Ok-Encode.ensures.words) (record { faults = refl; told = refl })
+    silent_text _ _ _ _ (encode_tells_nothing _ _ _ (asked_of c.in-Ok-Encode.asked) (rw c.in-Ok-Encode.field-0-is at c.in-Ok-Encode.ensures.words)) (record { faults = refl; told = refl })
 
 pub returns-in-OutputFault-clause-error_text : goal.returns-in-OutputFault-clause-error_text
 returns-in-OutputFault-clause-error_text g c =
     rw c.output_fault.ensures.status
-    (encode_fault_text _ _ _ (asked_of c.in-Ok-Encode.asked) _ (rw c.in-Ok-Encode.field-0-is at c.in-Ok-Encode.ensures.words) c.output_fault.ensures.text)
+    (silent_fault_text _ _ _ _ (encode_tells_nothing _ _ _ (asked_of c.in-Ok-Encode.asked) (rw c.in-Ok-Encode.field-0-is at c.in-Ok-Encode.ensures.words)) c.output_fault.ensures.text)
 
 pub returns-in-Limit-clause-input_refused : goal.returns-in-Limit-clause-input_refused
 returns-in-Limit-clause-input_refused g c = λ _.
@@ -41,18 +43,61 @@ pub returns-in-NoBody-clause-input_refused : goal.returns-in-NoBody-clause-input
 returns-in-NoBody-clause-input_refused g c = λ _.
     inr (inr (text_no_body _ _ (body_asked c.in-Ok-Decode.asked) _ c.in-NoBody.fault (rw c.in-Ok-Decode.field-0-is at c.in-Ok-Decode.ensures.words) c.in-NoBody.ensures.2))
 
-pub returns-in-NoBody-clause-body : goal.returns-in-NoBody-clause-body
-returns-in-NoBody-clause-body g c = λ body _.
+pub returns-in-NoBody-clause-in_grammar : goal.returns-in-NoBody-clause-in_grammar
+returns-in-NoBody-clause-in_grammar g c = λ body _.
     absurd (body_not_refused _ _ (body_asked c.in-Ok-Decode.asked) _ c.in-NoBody.fault (rw c.in-Ok-Decode.field-0-is at c.in-Ok-Decode.ensures.words) c.in-NoBody.ensures.2 body)
 
-pub returns-in-TextLimit-clause-body : goal.returns-in-TextLimit-clause-body
-returns-in-TextLimit-clause-body g c = λ body _.
+pub returns-in-TextLimit-clause-in_grammar : goal.returns-in-TextLimit-clause-in_grammar
+returns-in-TextLimit-clause-in_grammar g c = λ body _.
     absurd (body_not_too_long _ _ (body_asked c.in-Ok-Decode.asked) _ (rw c.in-Ok-Decode.field-0-is at c.in-Ok-Decode.ensures.words) c.in-TextLimit.ensures.1 body)
 
 pub returns-in-NoReply-clause-input_refused : goal.returns-in-NoReply-clause-input_refused
 returns-in-NoReply-clause-input_refused g c = λ _.
     inr (inr (text_no_reply _ _ (body_asked c.in-Ok-Decode.asked) _ c.in-NoReply.fault (rw c.in-Ok-Decode.field-0-is at c.in-Ok-Decode.ensures.words) c.in-NoReply.ensures.2))
 
-pub returns-in-NoReply-clause-body : goal.returns-in-NoReply-clause-body
-returns-in-NoReply-clause-body g c = λ body _.
+pub returns-in-NoReply-clause-in_grammar : goal.returns-in-NoReply-clause-in_grammar
+returns-in-NoReply-clause-in_grammar g c = λ body _.
     absurd (body_no_reply_fault _ _ (body_asked c.in-Ok-Decode.asked) _ c.in-NoReply.fault (rw c.in-Ok-Decode.field-0-is at c.in-Ok-Decode.ensures.words) c.in-NoReply.ensures.2 body)
+
+pub returns-in-Done-check-clause-error_text : goal.returns-in-Done-check-clause-error_text
+returns-in-Done-check-clause-error_text g c =
+    silent_text _ _ _ _ (check_tells_nothing _ _ _ c.in-Ok-Check.asked.path.now (rw c.in-Ok-Check.field-0-is at c.in-Ok-Check.ensures.words)) (record { faults = refl; told = refl })
+
+pub returns-in-OutputFault-check-clause-error_text : goal.returns-in-OutputFault-check-clause-error_text
+returns-in-OutputFault-check-clause-error_text g c =
+    rw c.output_fault-in-OutputFault-check.ensures.status
+    (silent_fault_text _ _ _ _ (check_tells_nothing _ _ _ c.in-Ok-Check.asked.path.now (rw c.in-Ok-Check.field-0-is at c.in-Ok-Check.ensures.words)) c.output_fault-in-OutputFault-check.ensures.text)
+
+pub returns-in-TextLimit-check-clause-input_refused : goal.returns-in-TextLimit-check-clause-input_refused
+returns-in-TextLimit-check-clause-input_refused g c = λ _.
+    inr (inl (nzb_too_long _ c.in-Ok-Check.asked.path.now _ (rw c.in-Ok-Check.field-0-is at c.in-Ok-Check.ensures.words) c.in-TextLimit-check.ensures.1))
+
+pub returns-in-TextLimit-check-clause-in_grammar : goal.returns-in-TextLimit-check-clause-in_grammar
+returns-in-TextLimit-check-clause-in_grammar g c = λ inside _.
+    absurd (nzb_is_not_too_long _ _ c.in-Ok-Check.asked.path.now _ (rw c.in-Ok-Check.field-0-is at c.in-Ok-Check.ensures.words) c.in-TextLimit-check.ensures.1 inside)
+
+pub returns-in-Refused-clause-input_refused : goal.returns-in-Refused-clause-input_refused
+returns-in-Refused-clause-input_refused g c = λ _.
+    inr (inr (no_nzb _ _ c.in-Ok-Check.asked.path.now _ (refused_at c.in-Refused.place c.in-Refused.reason) (rw c.in-Ok-Check.field-0-is at c.in-Ok-Check.ensures.words) c.in-Refused.ensures.2))
+
+pub returns-in-Refused-clause-in_grammar : goal.returns-in-Refused-clause-in_grammar
+returns-in-Refused-clause-in_grammar g c = λ inside _.
+    absurd (nzb_is_not_refused _ _ c.in-Ok-Check.asked.path.now _ (refused_at c.in-Refused.place c.in-Refused.reason) (rw c.in-Ok-Check.field-0-is at c.in-Ok-Check.ensures.words) c.in-Refused.ensures.2 inside)
+
+pub returns-in-Refused-clause-error_text : goal.returns-in-Refused-clause-error_text
+returns-in-Refused-clause-error_text g c =
+    refused_text _ _ _ _ _ _ c.no_index.ensures.status (no_nzb_line _ _ c.in-Ok-Check.asked.path.now
+    (reading g.I.Input.faults g.I.Input.shorts g.I.Input.short_place g.I.Input.current g.I.Input.blame c.args.input.now c.check.new.input) (refused_at c.in-Refused.place c.in-Refused.reason) (rw c.in-Ok-Check.field-0-is at c.in-Ok-Check.ensures.words) c.in-Refused.ensures.2) c.no_index.ensures.text
+
+pub returns-in-Limit-check-clause-input_refused : goal.returns-in-Limit-check-clause-input_refused
+returns-in-Limit-check-clause-input_refused g c = λ _.
+    inr (inr (no_nzb _ _ c.in-Ok-Check.asked.path.now _ (past c.in-Limit-check.limit) (rw c.in-Ok-Check.field-0-is at c.in-Ok-Check.ensures.words) c.in-Limit-check.ensures.2))
+
+pub returns-in-Limit-check-clause-in_grammar : goal.returns-in-Limit-check-clause-in_grammar
+returns-in-Limit-check-clause-in_grammar g c = λ inside _.
+    absurd (nzb_is_not_refused _ _ c.in-Ok-Check.asked.path.now _ (past c.in-Limit-check.limit) (rw c.in-Ok-Check.field-0-is at c.in-Ok-Check.ensures.words) c.in-Limit-check.ensures.2 inside)
+
+pub returns-in-Limit-check-clause-error_text : goal.returns-in-Limit-check-clause-error_text
+returns-in-Limit-check-clause-error_text g c =
+    refused_text _ _ _ _ _ _ c.over_nzb_limit.ensures.status (no_nzb_line _ _ c.in-Ok-Check.asked.path.now
+    (reading g.I.Input.faults g.I.Input.shorts g.I.Input.short_place g.I.Input.current g.I.Input.blame c.args.input.now c.check.new.input) (past c.in-Limit-check.limit) (rw c.in-Ok-Check.field-0-is at c.in-Ok-Check.ensures.words) c.in-Limit-check.ensures.2) c.over_nzb_limit.ensures.text

@@ -1,0 +1,146 @@
+-- A whole text over a slice.
+use Rattle.std.proofs.Common.{◌≡◌, ℕ, suc, ◌-◌, ◌<◌, ◌≤◌, true, List, [], length, drop, Result, Ok, Err, refl, sym, subst, ◌∙◌, arith, inl, inr, ◌⊎◌}
+use Rattle.std.specs.Prelude.{codes, bytes_eq, IfOk}
+use Rattle.std.proofs.lemmas.Bool.{lt-ltb, le-ltb}
+use Rattle.std.proofs.lemmas.List.{length-drop}
+use Rattle.nzb_index.specs.declared.error.NzbError.{NzbError}
+use Rattle.nzb_index.specs.declared.error.NzbError.TheVariants.{Memory, Refused, Limit}
+use Rattle.nzb_index.specs.declared.error.NzbLimit.TheVariants as limits
+use Rattle.nzb_index.specs.declared.index.Index.{Index}
+use Rattle.nzb_index.specs.declared.scan.Between.{Between}
+use Rattle.nzb_index.specs.declared.scan.Between.TheVariants.{Other, Declaration}
+use Rattle.nzb_index.specs.Markup.{unchecked}
+use Rattle.nzb_index.specs.Canonical.{IsValidIndex}
+use Rattle.nzb_index.specs.MarkupReading.{Stop, Tag, unexpected, word, name_at, between, between_or, tag_at, parent, ◌>>=◌}
+use Rattle.nzb_index.specs.Nzb.{IsNzb}
+use Rattle.nzb_index.specs.NzbReading.{Refusal, refused_at, past, entry_item, nothing_behind, behind_mark, behind_declaration, behind_type, index_at, with_place, nzb_of}
+use Rattle.nzb_index.specs.Readers.{Fails, ReadsTo, EndsBetween, unexpected_at}
+use Rattle.nzb_index.specs.ReadNzb.{Answers, IsError, ReadsIndex, ReadsRoot}
+use Rattle.nzb_index.specs.Refusal.{IsRefused}
+use Rattle.nzb_index.proofs.IndexFound.{nzb_found}
+use Rattle.nzb_index.proofs.IndexRead.{nzb_back}
+use Rattle.nzb_index.proofs.Places.{here, over, unexpected_fails}
+use Rattle.nzb_index.proofs.Betweens.{fails_as, fails_then}
+use Rattle.nzb_index.proofs.ValidIndex.{nzb_valid}
+
+-- ---- where the root begins
+
+pub root_here : (text : List ℕ) (at end : ℕ) (b : Between) → b ≡ Other end → EndsBetween text at (Ok b) → ReadsRoot text at (Ok end)
+root_here text at end b e h = let f : EndsBetween text at (Ok (Other end)) = subst (λ (x : Between). EndsBetween text at (Ok x)) e h in λ fuel fits. f behind_type fuel fits
+
+pub type_within : (text : List ℕ) (at end : ℕ) (b : Between) → b ≡ Declaration end → EndsBetween text at (Ok b) → end ≤ length text
+type_within text at end b e h = let f : EndsBetween text at (Ok (Declaration end)) = subst (λ (x : Between). EndsBetween text at (Ok x)) e h in (f behind_type (length (drop at text)) (omega arith)).1
+
+pub root_behind : (text : List ℕ) (at end : ℕ) (b : Between) (r : Result ℕ NzbError) → b ≡ Declaration end → EndsBetween text at (Ok b) → ReadsTo text end r (behind_type (drop end text)) → ReadsRoot text at r
+root_behind text at end b r e h read = let f : EndsBetween text at (Ok (Declaration end)) = subst (λ (x : Between). EndsBetween text at (Ok x)) e h in λ fuel fits. go fuel r read (f behind_type fuel fits)
+  where
+    go : (fuel : ℕ) (s : Result ℕ NzbError) → ReadsTo text end s (behind_type (drop end text)) → (at ≤ end) × (end ≤ length text) × (between_or behind_type (suc fuel) (drop at text) ≡ behind_type (drop end text)) → ReadsTo text at s (between_or behind_type (suc fuel) (drop at text))
+    go fuel (Ok last) (a, b, c) (l, w, g) = (omega (arith, a, l), b, g ∙ c)
+    go fuel (Err d) k (l, w, g) = fails_as text d _ _ g k
+
+-- ---- the root and what is behind it
+
+abbrev pub no_index : Index
+no_index = record { metas = []; files = [] }
+
+-- from behind the root's name on
+pub tail_at : List ℕ → Result Index Stop
+tail_at rest = tag_at unchecked rest >>= λ tag. parent entry_item (codes "nzb") tag.0 no_index tag.1 >>= λ index. between index.1 >>= λ behind. nothing_behind behind >>= λ nothing. Ok index.0
+
+pub to_tail : (text name : List ℕ) (marked declared mid inside behind : ℕ) → behind_mark text ≡ Ok (drop marked text) → behind_declaration (drop marked text) ≡ Ok (drop declared text) → ReadsRoot text declared (Ok mid) → word (codes "<") (drop mid text) ≡ Ok (drop inside text) →
+    name_at (drop inside text) ≡ Ok (name, drop behind text) → bytes_eq name (codes "nzb") ≡ true → index_at text ≡ tail_at (drop behind text)
+unfolding tail_at
+to_tail text name marked declared mid inside behind m d r w n s =
+    let root = (r (length text) (omega (arith, length-drop declared text))).2 in
+    rw m (rw d (rw root (rw w (rw n (rw s refl)))))
+
+pub tail_tag_fails : (text rest : List ℕ) (e : NzbError) → Fails text e (tag_at unchecked rest) → Fails text e (tail_at rest)
+unfolding tail_at
+tail_tag_fails text rest e h = fails_then text e (tag_at unchecked rest) (λ tag. parent entry_item (codes "nzb") tag.0 no_index tag.1 >>= λ index. between index.1 >>= λ behind. nothing_behind behind >>= λ nothing. Ok index.0) h
+
+pub tail_entries_fail : (text rest : List ℕ) (tag : Tag) (mid : List ℕ) (e : NzbError) → tag_at unchecked rest ≡ Ok (tag, mid) → Fails text e (parent entry_item (codes "nzb") tag no_index mid) → Fails text e (tail_at rest)
+unfolding tail_at
+tail_entries_fail text rest tag mid e t h = fails_as text e _ _ (rw t refl) (fails_then text e (parent entry_item (codes "nzb") tag no_index mid) (λ index. between index.1 >>= λ behind. nothing_behind behind >>= λ nothing. Ok index.0) h)
+
+pub tail_between_fails : (text rest : List ℕ) (tag : Tag) (mid : List ℕ) (index : Index) (left : List ℕ) (e : NzbError) → tag_at unchecked rest ≡ Ok (tag, mid) → parent entry_item (codes "nzb") tag no_index mid ≡ Ok (index, left) → Fails text e (between left) → Fails text e (tail_at rest)
+unfolding tail_at
+tail_between_fails text rest tag mid index left e t p h = fails_as text e _ _ (rw t (rw p refl)) (fails_then text e (between left) (λ behind. nothing_behind behind >>= λ nothing. Ok index) h)
+
+tail_behind : (rest : List ℕ) (tag : Tag) (mid : List ℕ) (index : Index) (left behind : List ℕ) → tag_at unchecked rest ≡ Ok (tag, mid) → parent entry_item (codes "nzb") tag no_index mid ≡ Ok (index, left) → between left ≡ Ok behind → tail_at rest ≡ (nothing_behind behind >>= λ nothing. Ok index)
+unfolding tail_at
+tail_behind rest tag mid index left behind t p b = rw t (rw p (rw b refl))
+
+more_behind : (text : List ℕ) (at : ℕ) → at < length text → nothing_behind (drop at text) ≡ (word (codes "<!--") (drop at text) >>= unexpected)
+more_behind text at l = rw (here text at l) refl
+
+pub tail_word_fails : (text rest : List ℕ) (tag : Tag) (mid : List ℕ) (index : Index) (left : List ℕ) (at : ℕ) (e : NzbError) → tag_at unchecked rest ≡ Ok (tag, mid) → parent entry_item (codes "nzb") tag no_index mid ≡ Ok (index, left) → between left ≡ Ok (drop at text) →
+    at < length text → Fails text e (word (codes "<!--") (drop at text)) → Fails text e (tail_at rest)
+tail_word_fails text rest tag mid index left at e t p b l h = fails_as text e _ _ (tail_behind rest tag mid index left (drop at text) t p b)
+    (fails_then text e (nothing_behind (drop at text)) (λ nothing. Ok index) (fails_as text e _ _ (more_behind text at l) (fails_then text e (word (codes "<!--") (drop at text)) unexpected h)))
+
+pub tail_more_fails : (text rest : List ℕ) (tag : Tag) (mid : List ℕ) (index : Index) (left : List ℕ) (at after : ℕ) → tag_at unchecked rest ≡ Ok (tag, mid) → parent entry_item (codes "nzb") tag no_index mid ≡ Ok (index, left) → between left ≡ Ok (drop at text) →
+    at < length text → word (codes "<!--") (drop at text) ≡ Ok (drop after text) → after ≤ length text → Fails text (unexpected_at text after) (tail_at rest)
+tail_more_fails text rest tag mid index left at after t p b l w a = fails_as text (unexpected_at text after) _ _ (tail_behind rest tag mid index left (drop at text) t p b)
+    (fails_then text (unexpected_at text after) (nothing_behind (drop at text)) (λ nothing. Ok index) (unexpected_fails text after (nothing_behind (drop at text)) a (more_behind text at l ∙ rw w refl)))
+
+pub tail_read : (text rest : List ℕ) (tag : Tag) (mid : List ℕ) (index : Index) (left : List ℕ) (at : ℕ) → tag_at unchecked rest ≡ Ok (tag, mid) → parent entry_item (codes "nzb") tag no_index mid ≡ Ok (index, left) → between left ≡ Ok (drop at text) → at ≡ length text → tail_at rest ≡ Ok index
+tail_read text rest tag mid index left at t p b e = tail_behind rest tag mid index left (drop at text) t p b ∙ rw (over text at (omega (arith, e))) refl
+
+-- ---- the answer
+
+pub too_long : (text : List ℕ) → 67108864 < length text → IsRefused text (past limits.TextBytes)
+unfolding nzb_of
+too_long text l = rw (lt-ltb 67108864 (length text) l) refl
+
+short : (text : List ℕ) → length text ≤ 67108864 → nzb_of text ≡ with_place (length text) (index_at text)
+unfolding nzb_of
+short text l = rw (le-ltb 67108864 (length text) l) refl
+
+not_both : (text : List ℕ) (index : Index) (refusal : Refusal) → IsNzb text index → IsRefused text refusal → ⊥
+not_both text index refusal n r = let e : given index ≡ Err refusal = sym (nzb_back text index n) ∙ r in cc
+  where
+    given : Index → Result Index Refusal
+    given j = Ok j
+
+one : (text : List ℕ) (d e : Refusal) → IsRefused text d → IsRefused text e → d ≡ e
+one text d e a b = let f : refuses d ≡ refuses e = sym a ∙ b in cc
+  where
+    refuses : Refusal → Result Index Refusal
+    refuses x = Err x
+
+pub answers : (text : List ℕ) (r : Result Index NzbError) → length text ≤ 67108864 → ReadsIndex text r (index_at text) → Answers text r
+answers text r l h = go r h
+  where
+    read : nzb_of text ≡ with_place (length text) (index_at text)
+    read = short text l
+
+    go : (s : Result Index NzbError) → ReadsIndex text s (index_at text) → Answers text s
+    go (Ok index) e = nzb_found text index (read ∙ rw e refl)
+    go (Err Memory) e = tt
+    go (Err (Refused place reason)) (w, e) = let same : length text - (length text - place) ≡ place = omega (arith, w) in read ∙ rw e (rw same refl)
+    go (Err (Limit k)) e = read ∙ rw e refl
+
+pub each_index : (text : List ℕ) (r : Result Index NzbError) (index : Index) → Answers text r → IsNzb text index → (r ≡ Ok index) ⊎ (r ≡ Err Memory)
+each_index text (Ok i) index a n = let e : given i ≡ given index = sym (nzb_back text i a) ∙ nzb_back text index n in let same : i ≡ index = cc in inl (rw same refl)
+  where
+    given : Index → Result Index Refusal
+    given j = Ok j
+each_index text (Err Memory) index a n = inr refl
+each_index text (Err (Refused place reason)) index a n = absurd (not_both text index (refused_at place reason) n a)
+each_index text (Err (Limit k)) index a n = absurd (not_both text index (past k) n a)
+
+pub each_refusal : (text : List ℕ) (r : Result Index NzbError) (refusal : Refusal) → Answers text r → IsRefused text refusal → IsError refusal r ⊎ (r ≡ Err Memory)
+each_refusal text (Ok i) refusal a n = absurd (not_both text i refusal a n)
+each_refusal text (Err Memory) refusal a n = inr refl
+each_refusal text (Err (Refused place reason)) refusal a n = inl (same refusal (one text refusal (refused_at place reason) n a))
+  where
+    same : (d : Refusal) → d ≡ refused_at place reason → IsError d (Err (Refused place reason))
+    same d e = rw e refl
+each_refusal text (Err (Limit k)) refusal a n = inl (same refusal (one text refusal (past k) n a))
+  where
+    same : (d : Refusal) → d ≡ past k → IsError d (Err (Limit k))
+    same d e = rw e refl
+
+pub valid_if_read : (text : List ℕ) (r : Result Index NzbError) → Answers text r → IfOk r IsValidIndex
+valid_if_read text (Ok i) a = nzb_valid text i a
+valid_if_read text (Err e) a = tt

@@ -1,0 +1,113 @@
+-- Worked rows of NZB texts, which compute.
+use Rattle.std.proofs.Common.{◌≡◌, ℕ, ◌+◌, ◌<◌, ◌^◌, lit<, map, List, [], ◌∷◌, ◌++◌, Ok, Err, refl}
+use Rattle.std.specs.Prelude.{codes, decimal}
+use Rattle.std.specs.Int.Digits.{digits_of}
+use Rattle.std.proofs.lemmas.Fmt.{decimal-digits_of}
+use Rattle.nzb_index.specs.declared.error.NzbReason.TheVariants.{Ended, Unexpected, BadReference, WrongTag, DoubleAttribute, NoNumber, BadId, Subset}
+use Rattle.nzb_index.specs.Canonical.{nzb_text, segment_text, file_text}
+use Rattle.nzb_index.specs.declared.index.Index.{Index}
+use Rattle.nzb_index.specs.NzbReading.{nzb_of, refused_at}
+
+wrong_tag : nzb_of (codes "<nzb><file></nzb>") ≡ Err (refused_at 11 WrongTag)
+unfolding nzb_of
+wrong_tag = refl
+
+cut_short : nzb_of (codes "<nzb>") ≡ Err (refused_at 5 Ended)
+unfolding nzb_of
+cut_short = refl
+
+name_not_ended : nzb_of (codes "<nzb><fz") ≡ Err (refused_at 8 Ended)
+unfolding nzb_of
+name_not_ended = refl
+
+example : List ℕ
+example = codes "<?xml version=\"1.0\" encoding=\"iso-8859-1\" ?>\n<!DOCTYPE nzb PUBLIC \"-//newzBin//DTD NZB 1.1//EN\" \"http://www.newzbin.com/DTD/nzb/nzb-1.1.dtd\">\n<nzb xmlns=\"http://www.newzbin.com/DTD/2003/nzb\">\n <head><meta type=\"category\">Test</meta></head>\n <file poster=\"A &lt;a@example.org&gt;\" date=\"1071674882\" subject=\"&quot;x.bin&quot; yEnc (1/2)\">\n  <groups><group>alt.binaries.test</group></groups>\n  <segments>\n   <segment bytes=\"102394\" number=\"1\">123@news.example.org</segment>\n   <segment bytes=\"4501\" number=\"2\">987@news.example.org</segment>\n  </segments>\n </file>\n</nzb>\n"
+
+example_index : Index
+example_index = record {
+  metas = record { kind = codes "category"; text = codes "Test" } ∷ [];
+  files = record {
+    poster = codes "A <a@example.org>";
+    date = 1071674882;
+    subject = codes "\"x.bin\" yEnc (1/2)";
+    groups = codes "alt.binaries.test" ∷ [];
+    segments = record { number = 1; bytes = 102394; id = codes "123@news.example.org" } ∷ record { number = 2; bytes = 4501; id = codes "987@news.example.org" } ∷ [];
+  } ∷ [];
+}
+
+example_read : nzb_of example ≡ Ok example_index
+unfolding nzb_of example example_index
+example_read = refl
+
+digits : (n : ℕ) → 0 < n → n < 2 ^ 64 → decimal n ≡ map (λ d. 48 + d) (digits_of 10 n)
+digits n low high = decimal-digits_of n low high
+
+canonical : List ℕ
+canonical = codes "<?xml version=\"1.0\" encoding=\"UTF-8\"?>\n<!DOCTYPE nzb PUBLIC \"-//newzBin//DTD NZB 1.1//EN\" \"http://www.newzbin.com/DTD/nzb/nzb-1.1.dtd\">\n<nzb xmlns=\"http://www.newzbin.com/DTD/2003/nzb\">\n<head>\n<meta type=\"category\">Test</meta>\n</head>\n<file poster=\"A &lt;a@example.org&gt;\" date=\"1071674882\" subject=\"&quot;x.bin&quot; yEnc (1/2)\">\n<groups>\n<group>alt.binaries.test</group>\n</groups>\n<segments>\n<segment bytes=\"102394\" number=\"1\">123@news.example.org</segment>\n<segment bytes=\"4501\" number=\"2\">987@news.example.org</segment>\n</segments>\n</file>\n</nzb>\n"
+
+segment_line : segment_text (record { number = 2; bytes = 4501; id = codes "987@news.example.org" }) ≡ codes "<segment bytes=\"4501\" number=\"2\">987@news.example.org</segment>\n"
+segment_line = rw (digits 4501 (lit< tt) (lit< tt), digits 2 (lit< tt) (lit< tt)) refl
+
+file_lines : file_text (record { poster = codes "<a>"; date = 10; subject = codes "\"d\" & e"; groups = codes "a.b" ∷ []; segments = [] }) ≡ codes "<file poster=\"&lt;a&gt;\" date=\"10\" subject=\"&quot;d&quot; &amp; e\">\n<groups>\n<group>a.b</group>\n</groups>\n<segments>\n</segments>\n</file>\n"
+file_lines = rw (digits 10 (lit< tt) (lit< tt)) refl
+
+no_files : nzb_of (nzb_text (record { metas = record { kind = codes "k"; text = codes "a\tb" } ∷ []; files = [] })) ≡ Ok (record { metas = record { kind = codes "k"; text = codes "a\tb" } ∷ []; files = [] })
+unfolding nzb_of nzb_text lib.Utf8.encode
+no_files = refl
+
+canonical_read : nzb_of canonical ≡ Ok example_index
+unfolding nzb_of canonical example_index
+canonical_read = refl
+
+garbage_behind : nzb_of (codes "<nzb></nzb>x") ≡ Err (refused_at 11 Unexpected)
+unfolding nzb_of
+garbage_behind = refl
+
+comment_cut : nzb_of (codes "<nzb></nzb><!-") ≡ Err (refused_at 14 Ended)
+unfolding nzb_of
+comment_cut = refl
+
+white_in_values : nzb_of (codes "<nzb><file subject='a\r\nb\tc&#10;d'/></nzb>") ≡ Ok (record { metas = []; files = record { poster = []; date = 0; subject = codes "a b c\nd"; groups = []; segments = [] } ∷ [] })
+unfolding nzb_of lib.Utf8.encode
+white_in_values = refl
+
+double_attribute : nzb_of (codes "<nzb a='1' b=\"2\" a='3'>") ≡ Err (refused_at 17 DoubleAttribute)
+unfolding nzb_of
+double_attribute = refl
+
+bad_reference : nzb_of (codes "<nzb a='&am'") ≡ Err (refused_at 8 BadReference)
+unfolding nzb_of
+bad_reference = refl
+
+no_number : nzb_of (codes "<nzb><file><segments><segment bytes='1'/>") ≡ Err (refused_at 21 NoNumber)
+unfolding nzb_of
+no_number = refl
+
+bad_id : nzb_of (codes "<nzb><file><segments><segment number='1'>a b</segment") ≡ Err (refused_at 53 Ended)
+unfolding nzb_of
+bad_id = refl
+
+bad_id_known : nzb_of (codes "<nzb><file><segments><segment number='1'>a b</segment >") ≡ Err (refused_at 21 BadId)
+unfolding nzb_of
+bad_id_known = refl
+
+subset : nzb_of (codes "<!DOCTYPE nzb [") ≡ Err (refused_at 14 Subset)
+unfolding nzb_of
+subset = refl
+
+-- a control byte: inside a value, behind a tag's name that isn't allowed there, inside a comment, and in a reference
+control_in_value : nzb_of (codes "<nzb a='" ++ 1 ∷ codes "'>") ≡ Err (refused_at 8 Unexpected)
+unfolding nzb_of
+control_in_value = refl
+
+control_behind_name : nzb_of (codes "<nzb><fz" ++ 1 ∷ []) ≡ Err (refused_at 5 WrongTag)
+unfolding nzb_of
+control_behind_name = refl
+
+control_in_comment : nzb_of (codes "<!-- " ++ 0 ∷ codes " --><nzb/>") ≡ Err (refused_at 5 Unexpected)
+unfolding nzb_of
+control_in_comment = refl
+
+control_in_reference : nzb_of (codes "<nzb a='&" ++ 1 ∷ codes "'>") ≡ Err (refused_at 8 BadReference)
+unfolding nzb_of
+control_in_reference = refl

@@ -1,0 +1,11 @@
+pub mod Canonical
+pub mod Markup
+pub mod MarkupReading
+pub mod Nzb
+pub mod NzbReading
+pub mod Refusal
+pub mod Readers
+pub mod Tags
+pub mod Elements
+pub mod Entries
+pub mod ReadNzb

@@ -1,0 +1,23 @@
+// The laws of NZB texts.
+ghost use Rattle.nzb_index.specs.Refusal.{NzbReadsBack, IndexIsValid, KnownFirst, OneAnswer};
+
+/// Each text has exactly one of an index, a refusal and a limit.
+pub fn one_answer()
+    ensures { OneAnswer }
+{}
+
+/// A refusal is by the text's end, or is known first at exactly one front of the text, with which no text with an index
+/// begins.
+pub fn known_first()
+    ensures { KnownFirst }
+{}
+
+/// An index that a text has is valid.
+pub fn index_is_valid()
+    ensures { IndexIsValid }
+{}
+
+/// The canonical text of a valid index has that index, if it is no longer than a text may be.
+pub fn nzb_reads_back()
+    ensures { NzbReadsBack }
+{}

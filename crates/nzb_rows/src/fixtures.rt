@@ -1,0 +1,11 @@
+// What the tests hand in.
+use std::alloc::Global;
+use std::test::Fail;
+use ub_base::Bytes;
+
+/// A list of these bytes.
+pub(crate) fn bytes_of(alloc: Global, text: &[u8]) -> Result<Bytes, Fail> {
+    let mut bytes = Bytes::new(alloc);
+    bytes.extend(text)?;
+    Ok(bytes)
+}

@@ -1,0 +1,7 @@
+//! The worked cases of NZB texts, read and written.
+#![tactic(auto)]
+
+#[cfg(test)]
+mod fixtures;
+#[cfg(test)]
+mod texts;
