@@ -77,7 +77,7 @@ comment_length (c ∷ comment) short = simp length-append (omega arith)
 number_length : (n : ℕ) → n ≤ 4294967295 → length (decimal n) ≤ 10
 number_length n most = length-decimal-le 10 n (lit< tt) (omega arith) (omega arith)
 
-subject_printable : (comment name : List ℕ) (part total : ℕ) → IsComment comment → IsFileName name → part ≤ 4294967295 → total ≤ 4294967295
+pub subject_printable : (comment name : List ℕ) (part total : ℕ) → IsComment comment → IsFileName name → part ≤ 4294967295 → total ≤ 4294967295
     → AllPassed is_printable (subject_text comment name part total)
 unfolding subject_text
 subject_printable comment name part total c n p t =

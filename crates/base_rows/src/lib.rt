@@ -8,4 +8,6 @@ mod lists;
 #[cfg(test)]
 mod scripts;
 #[cfg(test)]
+mod sockets;
+#[cfg(test)]
 mod system;

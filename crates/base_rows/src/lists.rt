@@ -25,6 +25,10 @@ fn lists_grow_and_are_cut(rt: HostRuntime) -> Result<(), Fail> {
     list.push(9)?;
     list.truncate(2);
     assert_eq!(rt; list.as_slice(), [7, 8].as_slice());
+    if list.len() > 1 {
+        list.set(1, 5);
+    }
+    assert_eq!(rt; list.as_slice(), [7, 5].as_slice());
     list.clear();
     assert!(rt; list.is_empty());
     Ok(())

@@ -8,4 +8,6 @@ mod fixtures;
 #[cfg(test)]
 mod heads;
 #[cfg(test)]
+mod logins;
+#[cfg(test)]
 mod replies;

@@ -1,3 +1,4 @@
+pub mod GroupLaws
 pub mod CommandLaws
 mod Rows
 pub mod StatusLaws

@@ -1,5 +1,5 @@
 -- The definitions of words, commands and status lines, computed on cases that were written out by hand.
-use Rattle.std.proofs.Common.{◌≡◌, ℕ, List, [], ◌++◌, Ok, Err, refl, lit≤, lit<, arith}
+use Rattle.std.proofs.Common.{◌≡◌, ℕ, List, [], ◌++◌, Some, None, Ok, Err, refl, lit≤, lit<, arith}
 use Rattle.std.specs.Prelude.{codes, replicate}
 use Rattle.std.specs.Borrow.{Bor}
 use Rattle.std.specs.Fmt.{digits}
@@ -7,6 +7,7 @@ use Rattle.nntp_lines.specs.declared.status.StatusFault.TheVariants.{NotACode, T
 use Rattle.nntp_lines.specs.declared.command.Command.TheVariants.{Body, Over, Quit}
 use Rattle.nntp_lines.specs.Command.{command_text, stat_line, group_line, post_line, user_line, pass_line, HasArticleNumbers}
 use Rattle.nntp_lines.specs.GroupName.{IsGroupName}
+use Rattle.nntp_lines.specs.GroupReply.{group_of, numbered}
 use Rattle.nntp_lines.specs.LoginWord.{IsLoginWord}
 use Rattle.nntp_lines.specs.MessageId.{IsMessageId}
 use Rattle.nntp_lines.specs.StatusLine.{HasStatusFault, IsStatusLine, status_of}
@@ -138,3 +139,35 @@ is_article_follows = record { short = lit≤ tt; begins = record { digits = code
 
 pub is_too_long : HasStatusFault (codes "200 " ++ replicate 507 97) TooLong
 is_too_long = lit< tt
+
+-- ---- the reply to GROUP
+
+pub group_chosen : group_of (codes "211 1234 3000234 3002322 misc.test") ≡ Some (record { count = 1234; low = 3000234; high = 3002322 })
+unfolding group_of numbered
+group_chosen = refl
+
+-- an empty group, and a name that is left out behind its space
+pub empty_group : group_of (codes "211 0 0 0 ") ≡ Some (record { count = 0; low = 0; high = 0 })
+unfolding group_of numbered
+empty_group = refl
+
+pub without_name : group_of (codes "211 1 2 3") ≡ None
+unfolding group_of numbered
+without_name = refl
+
+pub two_spaces : group_of (codes "211  1 2 3 x") ≡ None
+unfolding group_of numbered
+two_spaces = refl
+
+pub another_code : group_of (codes "411 1 2 3 x") ≡ None
+unfolding group_of numbered
+another_code = refl
+
+-- sixteen digits and seventeen
+pub greatest_article : group_of (codes "211 1 1 9999999999999999 x") ≡ Some (record { count = 1; low = 1; high = 9999999999999999 })
+unfolding group_of numbered
+greatest_article = refl
+
+pub article_too_great : group_of (codes "211 1 1 10000000000000000 x") ≡ None
+unfolding group_of numbered
+article_too_great = refl

@@ -1,5 +1,6 @@
 pub mod Command
 pub mod GroupName
+pub mod GroupReply
 pub mod LoginWord
 pub mod MessageId
 pub mod StatusLine

@@ -4,3 +4,4 @@ pub mod Lives
 pub mod NamedFiles
 pub mod NumberDigits
 pub mod ScriptLaws
+pub mod TcpLives

@@ -2,6 +2,7 @@ pub mod Causes
 pub mod InMemory
 pub mod Input
 pub mod Lines
+pub mod LinkLog
 pub mod Links
 pub mod Log
 pub mod Numbers
@@ -9,3 +10,5 @@ pub mod Script
 pub mod ScriptLinks
 pub mod Sink
 pub mod Store
+pub mod TcpLinks
+pub mod Trace

@@ -1,5 +1,5 @@
 // A list that grows.
-ghost use Rattle.std.specs.Prelude.{◌≡◌, [], ◌∷◌, ◌++◌, length, take, OnOk, OnErr, IsTrue, ◌↔◌};
+ghost use Rattle.std.specs.Prelude.{◌≡◌, ◌<◌, [], ◌∷◌, ◌++◌, length, take, slice_set, OnOk, OnErr, IsTrue, ◌↔◌};
 
 use crate::Memory;
 use std::alloc::Global;
@@ -77,6 +77,14 @@ impl<T: Drop> List<T> {
         ensures { self.new ≡ take len self.old }
     {
         self.items.truncate(len);
+    }
+
+    /// Puts a member at this index, counted from 0, in the place of the one that stands there.
+    pub fn set(&mut self, index: usize, item: T)
+        requires { index < length self.old }
+        ensures { self.new ≡ slice_set self.old index item }
+    {
+        self.items[index] = item;
     }
 
     /// Appends a member, or changes nothing and drops it.

@@ -5,10 +5,10 @@ ghost use Rattle.ub_base.specs.Log.{count_live};
 use crate::{Bytes, Failed, LinkEvent, Memory};
 use std::alloc::Global;
 
-// What happened on all links, and which of them are live. A link that is opened takes the room for its end, so that
-// it can be told after memory ran out.
+/// What happened on all links of an object in memory, and which of them are live. A link that is opened takes the room for
+/// its end, so that it can be told after memory ran out.
 #[derive(Drop)]
-pub(crate) struct Log {
+pub struct LinkLog {
     events: Vec<LinkEvent>,
     live: Vec<bool>,
     ends: usize,
@@ -18,46 +18,48 @@ pub(crate) struct Log {
     ghost room: { vec_len events + ends ≤ vec_capacity events },
 }
 
-impl Log {
+impl LinkLog {
+    ghost use Rattle.ub_base.specs.LinkLog.{log_events, log_live};
     ghost use Rattle.ub_base.specs.Links.{opened_events, live_after_open};
     ghost use Rattle.ub_base.specs.declared.links.LinkEvent.TheVariants.{Sent, Heard, Quiet, Ended};
 
-    pub(crate) fn new(alloc: Global) -> Self
-        ensures events { result.events.items ≡ [] }
-        ensures live { result.live.items ≡ [] }
+    /// A log of no link.
+    pub fn new(alloc: Global) -> Self
+        ensures events { log_events result ≡ [] }
+        ensures live { log_live result ≡ [] }
     {
-        Log {
+        LinkLog {
             events: Vec::new(alloc),
             live: Vec::new(alloc),
             ends: 0,
         }
     }
 
-    // All that happened.
-    pub(crate) fn events(&self) -> &[LinkEvent]
-        ensures { result.now ≡ self.now.events.items }
+    /// All that happened.
+    pub fn events(&self) -> &[LinkEvent]
+        ensures { result.now ≡ log_events self.now }
     {
         &self.events
     }
 
-    // How many links were opened.
-    pub(crate) fn opened(&self) -> usize
-        ensures { result ≡ length self.now.live.items }
+    /// How many links were opened.
+    pub fn opened(&self) -> usize
+        ensures { result ≡ length (log_live self.now) }
     {
         self.live.len()
     }
 
-    // The allocator of what is kept.
-    pub(crate) fn alloc(&self) -> Global {
+    /// The allocator of what is kept.
+    pub fn alloc(&self) -> Global {
         *self.events.allocator()
     }
 
-    // Opens the next link, and takes the room for its end. `Failed` changes nothing: there was no memory, or no number.
+    /// Opens the next link, and takes the room for its end. `Failed` changes nothing: there was no memory, or no number.
     #[tactic(auto, using(crate::proofs::Lives::one_more))]
-    pub(crate) fn open(&mut self, address: &[u8]) -> Result<u32, Failed>
-        ensures number { IfOk result (λ link. link ≡ length self.old.live.items) }
-        ensures live { self.new.live.items ≡ live_after_open self.old.live.items result }
-        ensures events { self.new.events.items ≡ self.old.events.items ++ opened_events address.now result }
+    pub fn open(&mut self, address: &[u8]) -> Result<u32, Failed>
+        ensures number { IfOk result (λ link. link ≡ length (log_live self.old)) }
+        ensures live { log_live self.new ≡ live_after_open (log_live self.old) result }
+        ensures events { log_events self.new ≡ log_events self.old ++ opened_events address.now result }
     {
         let number = self.live.len();
         if number > u32::MAX as usize {
@@ -84,54 +86,54 @@ impl Log {
         }
     }
 
-    // Tells the bytes that went out.
-    pub(crate) fn tell_sent(&mut self, link: u32, bytes: &[u8]) -> Result<(), Memory>
-        ensures ok { OnOk result (self.new.events.items ≡ self.old.events.items ++ Sent link bytes.now ∷ []) }
-        ensures err { OnErr result (self.new.events.items ≡ self.old.events.items) }
-        ensures live { self.new.live.items ≡ self.old.live.items }
+    /// Tells the bytes that went out.
+    pub fn tell_sent(&mut self, link: u32, bytes: &[u8]) -> Result<(), Memory>
+        ensures ok { OnOk result (log_events self.new ≡ log_events self.old ++ Sent link bytes.now ∷ []) }
+        ensures err { OnErr result (log_events self.new ≡ log_events self.old) }
+        ensures live { log_live self.new ≡ log_live self.old }
     {
         let mut copy = Bytes::new(self.alloc());
         copy.extend(bytes)?;
         self.tell(LinkEvent::Sent { link, bytes: copy })
     }
 
-    // Tells the bytes that came in.
-    pub(crate) fn tell_heard(&mut self, link: u32, bytes: &[u8]) -> Result<(), Memory>
-        ensures ok { OnOk result (self.new.events.items ≡ self.old.events.items ++ Heard link bytes.now ∷ []) }
-        ensures err { OnErr result (self.new.events.items ≡ self.old.events.items) }
-        ensures live { self.new.live.items ≡ self.old.live.items }
+    /// Tells the bytes that came in.
+    pub fn tell_heard(&mut self, link: u32, bytes: &[u8]) -> Result<(), Memory>
+        ensures ok { OnOk result (log_events self.new ≡ log_events self.old ++ Heard link bytes.now ∷ []) }
+        ensures err { OnErr result (log_events self.new ≡ log_events self.old) }
+        ensures live { log_live self.new ≡ log_live self.old }
     {
         let mut copy = Bytes::new(self.alloc());
         copy.extend(bytes)?;
         self.tell(LinkEvent::Heard { link, bytes: copy })
     }
 
-    // Tells that a receive found nothing.
-    pub(crate) fn tell_quiet(&mut self, link: u32) -> Result<(), Memory>
-        ensures ok { OnOk result (self.new.events.items ≡ self.old.events.items ++ Quiet link ∷ []) }
-        ensures err { OnErr result (self.new.events.items ≡ self.old.events.items) }
-        ensures live { self.new.live.items ≡ self.old.live.items }
+    /// Tells that a receive found nothing.
+    pub fn tell_quiet(&mut self, link: u32) -> Result<(), Memory>
+        ensures ok { OnOk result (log_events self.new ≡ log_events self.old ++ Quiet link ∷ []) }
+        ensures err { OnErr result (log_events self.new ≡ log_events self.old) }
+        ensures live { log_live self.new ≡ log_live self.old }
     {
         self.tell(LinkEvent::Quiet { link })
     }
 
     // Appends an event, where there is room for it beside the ends.
     fn tell(&mut self, event: LinkEvent) -> Result<(), Memory>
-        ensures ok { OnOk result (self.new.events.items ≡ self.old.events.items ++ event ∷ []) }
-        ensures err { OnErr result (self.new.events.items ≡ self.old.events.items) }
-        ensures live { self.new.live.items ≡ self.old.live.items }
+        ensures ok { OnOk result (log_events self.new ≡ log_events self.old ++ event ∷ []) }
+        ensures err { OnErr result (log_events self.new ≡ log_events self.old) }
+        ensures live { log_live self.new ≡ log_live self.old }
     {
         self.events.reserve(self.ends + 1)?;
         self.events.push(event)?;
         Ok(())
     }
 
-    // Ends a link that is live. The room for that is there.
+    /// Ends a link that is live. The room for that is there.
     #[tactic(auto, using(crate::proofs::Lives::one_fewer))]
-    pub(crate) fn end(&mut self, link: u32)
-        requires { slice_get self.old.live.items link ≡ Some true }
-        ensures events { self.new.events.items ≡ self.old.events.items ++ Ended link ∷ [] }
-        ensures live { self.new.live.items ≡ slice_set self.old.live.items link false }
+    pub fn end(&mut self, link: u32)
+        requires { slice_get (log_live self.old) link ≡ Some true }
+        ensures events { log_events self.new ≡ log_events self.old ++ Ended link ∷ [] }
+        ensures live { log_live self.new ≡ slice_set (log_live self.old) link false }
     {
         self.live[link as usize] = false;
         self.ends -= 1;

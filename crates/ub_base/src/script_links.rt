@@ -6,9 +6,8 @@ ghost use Rattle.ub_base.specs.Script.{due_on, got_of, left_after, left_of, rest
 
 use crate::blame::opening;
 use crate::count::raised;
-use crate::log::Log;
 use crate::script::{Place, Turn, take_turn};
-use crate::{Blame, Failed, Got, LinkEvent, Links, List, Memory};
+use crate::{Blame, Failed, Got, LinkEvent, LinkLog, Links, List, Memory};
 use std::alloc::Global;
 
 /// Links in memory, each of which follows a script, with their trace. Chosen calls fail, and so does an opening for which
@@ -18,7 +17,7 @@ pub struct ScriptLinks {
     scripts: List<List<Turn>>,
     places: Vec<Place>,
     failing: List<u64>,
-    log: Log,
+    log: LinkLog,
     calls: u64,
     faults: u64,
     blame: Option<Blame>,
@@ -47,7 +46,7 @@ impl ScriptLinks {
             scripts,
             places,
             failing,
-            log: Log::new(alloc),
+            log: LinkLog::new(alloc),
             calls: 0,
             faults: 0,
             blame: None,

@@ -1,12 +1,12 @@
 // What stands between the system and the top call: the words, the moment, and what is said to a person.
 ghost use Rattle.std.specs.Prelude.{◌≤◌};
 
+use command_words::refused_word;
 use std::env::{Env, FillError};
 use std::io::ErrorKind;
 use std::time::{SystemTime, UNIX_EPOCH};
 use std::{env, io};
 use ub_base::Memory;
-use usebin_cli::refused_word;
 
 // The most bytes that the system hands over as one word.
 const LONGEST_WORD: usize = 131_072;

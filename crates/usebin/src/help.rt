@@ -1,7 +1,7 @@
 // The texts of help.
 
 const ABOUT: &str = "\
-usebin makes yEnc articles of files, for Usenet newsgroups, and files of articles.
+usebin makes yEnc articles of files, posts them in Usenet newsgroups, and makes files of articles.
 
 usage: usebin COMMAND --KEY VALUE ..
 
@@ -9,16 +9,21 @@ commands:
   encode   writes the yEnc body of a file, or of a part of it, to standard output
   decode   writes the bytes of a saved body to standard output
   check    reads the index of files in an NZB, and writes what it lists
+  post     posts a file through a news server, and writes the NZB of it to standard output
 
 usebin COMMAND --help says what a command takes, usebin --version which version this is.
 
 exit status:
   0  done
+  1  some part of a file was not posted
   2  a word is refused, and its number is told
   3  a file could not be opened or read
   4  the output could not be written
+  5  no connection to the server could be opened
   6  the input was read and is refused
   7  there was not enough memory
+  8  the server refused to be sent an article, and its code is told
+  9  the connection was over before an article was sent, and why is told
 ";
 
 const ENCODE: &str = "\
@@ -60,6 +65,32 @@ stand before it.
   --nzb FILE   the NZB, of at most 67108864 bytes, 9999 files and 262144 segments
 ";
 
+const POST: &str = "\
+usage: usebin post --input FILE --server HOST:PORT --from FROM --group GROUPS --token TOKEN --domain DOMAIN
+                   [--name NAME] [--comment TEXT] [--line N] [--part-size N] [--patience N] [--login FILE]
+
+Posts FILE as yEnc articles, one for each part, over one connection to a news server, and then writes the NZB of all parts to
+standard output. An article is sent once, whatever becomes of it. Each part that wasn't posted has a line on standard error:
+`part I refused C` with the server's code, `part I unsure` where the article was sent, or some of it, and no answer came, and
+`part I notsent`.
+
+  --input FILE          the file, of at most 1099511627776 bytes and 262144 parts
+  --server HOST:PORT    the news server
+  --from FROM           who posts, as `me@example.org` or `Me <me@example.org>`: 1 to 200 printable ASCII characters
+  --group GROUPS        the newsgroups: 1 to 10 names with commas between them
+  --token TOKEN         what the message-ids begin with, which no other post may have: 1 to 64 letters, digits, `-` and `_`
+  --domain DOMAIN       the domain of the message-ids: 1 to 64 letters, digits, `-` and dots
+  --name NAME           the name of the file: 1 to 255 printable ASCII characters. Without it the part of the path behind its
+                        last slash is the name.
+  --comment TEXT        what the subjects begin with: at most 200 printable ASCII characters. Without it nothing.
+  --line N              how many characters a data line has before it is full, 64 to 997. Without it 128.
+  --part-size N         how many bytes a part has, 1 to 16777216. Without it 750000.
+  --patience N          after how many quiet receives of 20 milliseconds each the server is given up, 1 to 100000. Without it
+                        1500.
+  --login FILE          a file of lines `HOST:PORT USER PASSWORD`. The line with the server's address, if there is one, says who
+                        logs in there.
+";
+
 const VERSION: &str = "usebin 0.1.0\n";
 
 /// The text that the words ask for in place of a command, if they do.
@@ -75,6 +106,9 @@ pub(crate) fn help_for(words: &[String]) -> Option<&'static str> {
         }
         [command, second, ..] if command.as_str() == "check" && second.as_str() == "--help" => {
             Some(CHECK)
+        }
+        [command, second, ..] if command.as_str() == "post" && second.as_str() == "--help" => {
+            Some(POST)
         }
         _ => None,
     }

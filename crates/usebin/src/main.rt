@@ -7,8 +7,8 @@ mod help;
 use edge::{command_line, explain_reason, explain_words, moment_of, print_help};
 use help::help_for;
 use std::process::ExitCode;
-use ub_base::{ErrSink, FileInput, OutSink};
-use usebin_cli::{NoLinks, NoStore, usebin};
+use ub_base::{ErrSink, FileInput, OutSink, TcpLinks};
+use usebin_cli::{NoStore, usebin};
 
 fn main(rt: HostRuntime) -> ExitCode {
     let words = match command_line(&rt) {
@@ -21,10 +21,11 @@ fn main(rt: HostRuntime) -> ExitCode {
     }
 }
 
-// Does what the words ask for with the files of the system and its standard streams, and explains the status below the line
-// that the top call wrote, unless that line couldn't be written.
+// Does what the words ask for with the files of the system, its standard streams and links over TCP, and explains the status
+// below the line that the top call wrote, unless that line couldn't be written.
 fn run(rt: &HostRuntime, words: &[String]) -> u8 {
     let mut input = FileInput::new(rt);
+    let mut links = TcpLinks::new(rt.alloc(), rt);
     let mut out = OutSink::new(rt.stdout());
     let mut err = ErrSink::new(rt.stderr());
     let status = usebin(
@@ -32,7 +33,7 @@ fn run(rt: &HostRuntime, words: &[String]) -> u8 {
         words,
         &mut input,
         &mut NoStore::new(),
-        &mut NoLinks::new(),
+        &mut links,
         &mut out,
         &mut err,
         moment_of(rt),
@@ -41,6 +42,7 @@ fn run(rt: &HostRuntime, words: &[String]) -> u8 {
         (2, None) => explain_words(rt, words),
         (3, None) => explain_reason(rt, input.reason()),
         (4, None) => explain_reason(rt, out.reason()),
+        (5, None) => explain_reason(rt, links.reason()),
         _ => {}
     }
     status

@@ -1,11 +1,10 @@
 pub mod BodyLemmas
 pub mod CheckLemmas
-pub mod KeysLemmas
 pub mod PartLemmas
-pub mod ReadingLemmas
 pub mod ReplyLemmas
+pub mod PostLemmas
+pub mod PostSteps
 mod Rows
 pub mod RunLemmas
 pub mod TopLemmas
-pub mod WordsLemmas
 pub mod WritingLemmas

@@ -14,8 +14,8 @@ use Rattle.yenc_body.specs.declared.fault.Fault.{Fault}
 use Rattle.yenc_body.specs.Body.{IsBody}
 use Rattle.yenc_body.specs.FirstFault.{IsFirstFault}
 use Rattle.yenc_body.proofs.BodyLaws.{body_read, fault_read}
-use Rattle.usebin_cli.specs.declared.keys.Form.{Form}
-use Rattle.usebin_cli.specs.declared.keys.Form.TheVariants.{File, Wire}
+use Rattle.command_words.specs.declared.keys.Form.{Form}
+use Rattle.command_words.specs.declared.keys.Form.TheVariants.{File, Wire}
 use Rattle.usebin_cli.specs.declared.reply.ReplyFault.{ReplyFault}
 use Rattle.usebin_cli.specs.declared.reply.ReplyFault.TheVariants.{NoReply, Code, Unfinished, Rest}
 use Rattle.usebin_cli.specs.declared.reply.ReplyError.{ReplyError}

@@ -1,8 +1,8 @@
 -- What goes past a limit.
 use Rattle.std.proofs.Common.{◌≡◌, ℕ, Option, refl}
-use Rattle.usebin_cli.specs.CommandLine.{PartAsked, Words}
-use Rattle.usebin_cli.specs.CommandLine.Words.{Asks}
-use Rattle.usebin_cli.specs.CommandLine.Command.{Encode}
+use Rattle.command_words.specs.CommandLine.{PartAsked, Words}
+use Rattle.command_words.specs.CommandLine.Words.{Asks}
+use Rattle.command_words.specs.CommandLine.Command.{Encode}
 use Rattle.usebin_cli.specs.Encode.{IsOver}
 use Rattle.usebin_cli.specs.Run.{IsOverLimit, limit_line}
 use Rattle.usebin_cli.specs.declared.encode.Limit.{Limit}

@@ -10,12 +10,12 @@ use Rattle.nzb_index.specs.Refusal.{HasOneIndex, HasOneRefusal, IsRefused}
 use Rattle.nzb_index.specs.declared.index.Index.{Index}
 use Rattle.nzb_index.proofs.NzbLaws.{one_answer_of}
 use Rattle.usebin_cli.specs.Check.{IsNoIndex, refusal_line}
-use Rattle.usebin_cli.specs.CommandLine.{BodyAsked, PartAsked, Words}
-use Rattle.usebin_cli.specs.CommandLine.Words.{Asks}
-use Rattle.usebin_cli.specs.CommandLine.Command.{Check, Decode, Encode}
+use Rattle.command_words.specs.CommandLine.{BodyAsked, PartAsked, Words}
+use Rattle.command_words.specs.CommandLine.Words.{Asks}
+use Rattle.command_words.specs.CommandLine.Command.{Check, Decode, Encode}
 use Rattle.usebin_cli.specs.Decode.{IsDecoded, IsNoBody, IsNoReply, ToldRange}
 use Rattle.usebin_cli.specs.Printed.{fault_line, range_line}
-use Rattle.usebin_cli.specs.Reading.{Reading, Exceeds, most_text}
+use Rattle.input_files.specs.Reading.{Reading, Exceeds, most_text}
 use Rattle.usebin_cli.specs.Run.{IsInGrammar, IsOutsideGrammar, IsErrorText, IsInputLine, IsNote, IsNoteAnd, IsOverLimit, line, reply_line}
 use Rattle.usebin_cli.specs.Writing.{Written, Got, IsUntouched, WroteWhole}
 use Rattle.usebin_cli.specs.declared.reply.ReplyFault.{ReplyFault}
@@ -25,7 +25,7 @@ use Rattle.usebin_cli.proofs.WritingLemmas.{told_and-append, front_of_longer, fr
 -- ---- standard error
 
 -- status 0 with its note
-done_text : (words : Words) (files : Option (List (List ℕ × List ℕ))) (r : Reading) (note : List ℕ) → IsNote words files r.current note → IsErrorText words files r 0 note
+pub done_text : (words : Words) (files : Option (List (List ℕ × List ℕ))) (r : Reading) (note : List ℕ) → IsNote words files r.current note → IsErrorText words files r 0 note
 done_text words files r note is = record {
   done = λ e. is;
   words_refused = λ e. absurd (omega (arith, e));
@@ -33,10 +33,14 @@ done_text words files r note is = record {
   output_fault = λ e. absurd (omega (arith, e));
   input_refused = λ e. absurd (omega (arith, e));
   memory = λ e. absurd (omega (arith, e));
+  in_part = λ e. absurd (omega (arith, e));
+  no_link = λ e. absurd (omega (arith, e));
+  refused = λ e. absurd (omega (arith, e));
+  over = λ e. absurd (omega (arith, e));
 }
 
 -- status 4 with its note and its line
-fault_text : (words : Words) (files : Option (List (List ℕ × List ℕ))) (r : Reading) (text : List ℕ) → IsNoteAnd words files r.current (line (codes "usebin: output fault")) text → IsErrorText words files r 4 text
+pub fault_text : (words : Words) (files : Option (List (List ℕ × List ℕ))) (r : Reading) (text : List ℕ) → IsNoteAnd words files r.current (line (codes "usebin: output fault")) text → IsErrorText words files r 4 text
 fault_text words files r text is = record {
   done = λ e. absurd (omega (arith, e));
   words_refused = λ e. absurd (omega (arith, e));
@@ -44,6 +48,10 @@ fault_text words files r text is = record {
   output_fault = λ e. is;
   input_refused = λ e. absurd (omega (arith, e));
   memory = λ e. absurd (omega (arith, e));
+  in_part = λ e. absurd (omega (arith, e));
+  no_link = λ e. absurd (omega (arith, e));
+  refused = λ e. absurd (omega (arith, e));
+  over = λ e. absurd (omega (arith, e));
 }
 
 told_nothing : (told : Option (List ℕ)) → told ≡ told_and told []
@@ -75,6 +83,10 @@ refused_text words files r status text e six is got = (
     output_fault = λ e. absurd (omega (arith, six, e));
     input_refused = λ e. is;
     memory = λ e. absurd (omega (arith, six, e));
+    in_part = λ e. absurd (omega (arith, six, e));
+    no_link = λ e. absurd (omega (arith, six, e));
+    refused = λ e. absurd (omega (arith, six, e));
+    over = λ e. absurd (omega (arith, six, e));
   },
   got,
 )
@@ -102,7 +114,7 @@ decode_fault : (words : Words) (files : Option (List (List ℕ × List ℕ))) (r
 decode_fault words files r asked p is decoded = fault_text words files r _ (range_line p, is_note words files asked r.current p is decoded, refl)
 
 -- a whole text, and then another or a front of it
-got_both : (first second : List ℕ) (f0 f1 f2 : ℕ) (t0 t1 t2 : Option (List ℕ)) →
+pub got_both : (first second : List ℕ) (f0 f1 f2 : ℕ) (t0 t1 t2 : Option (List ℕ)) →
     WroteWhole first (record { faults_before = f0; faults_now = f1; told_before = t0; told_now = t1 }) →
     Got second (record { faults_before = f1; faults_now = f2; told_before = t1; told_now = t2 }) →
     Got (first ++ second) (record { faults_before = f0; faults_now = f2; told_before = t0; told_now = t2 })

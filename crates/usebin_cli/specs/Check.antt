@@ -10,7 +10,7 @@ use Rattle.nzb_index.specs.declared.error.NzbLimit.{NzbLimit}
 use Rattle.nzb_index.specs.declared.error.NzbLimit.TheVariants.{TextBytes, Files, Segments}
 use Rattle.nzb_index.specs.declared.error.NzbReason.{NzbReason}
 use Rattle.nzb_index.specs.declared.error.NzbReason.TheVariants.{Ended, Unexpected, BadReference, WrongTag, DoubleAttribute, NoNumber, BadNumber, BadId, Subset}
-use Rattle.usebin_cli.specs.Reading.{Reading, IsFaultless, IsShortAt, HasFailed, IsBelow, Fits, Exceeds, IsReadOrOpen, IsSaved, most_text}
+use Rattle.input_files.specs.Reading.{Reading, IsFaultless, IsShortAt, HasFailed, IsBelow, Fits, Exceeds, IsReadOrOpen, IsSaved, most_text}
 use Rattle.usebin_cli.specs.Writing.{Written, IsUntouched, WroteWhole, WroteFront}
 use Rattle.usebin_cli.specs.declared.check.Counts.{Counts}
 use Rattle.usebin_cli.specs.declared.check.CheckEnd.{CheckEnd}

@@ -5,10 +5,10 @@ use Rattle.yenc_body.specs.FirstFault.{IsFirstFault}
 use Rattle.yenc_body.specs.Text.{text_lines}
 use Rattle.yenc_body.specs.declared.part.Part.{Part}
 use Rattle.yenc_body.specs.declared.fault.Fault.{Fault}
-use Rattle.usebin_cli.specs.CommandLine.{BodyAsked}
+use Rattle.command_words.specs.CommandLine.{BodyAsked}
 use Rattle.usebin_cli.specs.Printed.{range_line}
 use Rattle.usebin_cli.specs.Reply.{HasReplyFault, IsBodyReply}
-use Rattle.usebin_cli.specs.Reading.{Reading, IsFaultless, IsShortAt, HasFailed, IsBelow, Fits, Exceeds, IsReadOrOpen, IsSaved, most_text}
+use Rattle.input_files.specs.Reading.{Reading, IsFaultless, IsShortAt, HasFailed, IsBelow, Fits, Exceeds, IsReadOrOpen, IsSaved, most_text}
 use Rattle.usebin_cli.specs.Writing.{Written, IsUntouched, WroteWhole, WroteFront}
 use Rattle.usebin_cli.specs.declared.decode.DecodeEnd.{DecodeEnd}
 use Rattle.usebin_cli.specs.declared.decode.DecodeEnd.TheVariants.{Done, Memory, InputFault, Short, TextLimit, NoBody, NoReply, OutputFault}
@@ -17,8 +17,8 @@ use Rattle.usebin_cli.specs.declared.decode.TextError.TheVariants as texts
 use Rattle.usebin_cli.specs.declared.reply.ReplyError.{ReplyError}
 use Rattle.usebin_cli.specs.declared.reply.ReplyError.TheVariants as replies
 use Rattle.usebin_cli.specs.declared.reply.ReplyFault.{ReplyFault}
-use Rattle.usebin_cli.specs.declared.keys.Form.{Form}
-use Rattle.usebin_cli.specs.declared.keys.Form.TheVariants.{File, Wire}
+use Rattle.command_words.specs.declared.keys.Form.{Form}
+use Rattle.command_words.specs.declared.keys.Form.TheVariants.{File, Wire}
 
 -- the lines of a body as it was saved: those of a file, or those in a reply off the wire
 abbrev pub IsSavedAs : Form → List ℕ → List (List ℕ) → Type 0

@@ -1,12 +1,10 @@
-pub mod Asked
 pub mod Body
 pub mod Check
-pub mod CommandLine
 pub mod Decode
 pub mod Encode
-pub mod Keys
+pub mod Post
+pub mod PostText
 pub mod Printed
-pub mod Reading
 pub mod Reply
 pub mod Run
 pub mod Writing

@@ -1,10 +1,10 @@
 -- What a run of the top call says of the words, the input and the outputs.
-use Rattle.std.specs.Prelude.{◌≡◌, ◌⊎◌, ℕ, List, [], ◌∷◌, ◌++◌, Option, Some, codes}
+use Rattle.std.specs.Prelude.{◌≡◌, ◌⊎◌, ℕ, List, [], ◌∷◌, ◌++◌, Option, Some, codes, ⊤}
 use Rattle.std.specs.Fmt.{decimal}
 use Rattle.ub_base.specs.Causes.{Rose}
-use Rattle.usebin_cli.specs.CommandLine.{Words}
-use Rattle.usebin_cli.specs.CommandLine.Words.{Asks, Refused}
-use Rattle.usebin_cli.specs.CommandLine.Command.{Check, Decode, Encode}
+use Rattle.command_words.specs.CommandLine.{Words}
+use Rattle.command_words.specs.CommandLine.Words.{Asks, Refused}
+use Rattle.command_words.specs.CommandLine.Command.{Check, Decode, Encode, Post}
 use Rattle.yenc_body.specs.declared.part.Part.{Part as BodyPart}
 use Rattle.yenc_body.specs.declared.fault.Fault.{Fault}
 use Rattle.nzb_index.specs.NzbReading.{Refusal}
@@ -12,8 +12,15 @@ use Rattle.nzb_index.specs.declared.index.Index.{Index}
 use Rattle.usebin_cli.specs.Check.{IsListed, IsNoIndex, counts_of, counts_text, refusal_line}
 use Rattle.usebin_cli.specs.Decode.{IsDecoded, IsNoBody, IsNoReply}
 use Rattle.usebin_cli.specs.Encode.{IsAskedCall, IsEncoded, IsInPart, IsOver}
+use Rattle.usebin_cli.specs.Post.{Linked, FitsAt, IsLoginAt, IsLoginBroken, IsLoginTooLong, IsPostCall, IsTooLarge, PostTells, broken_line, large_line, last_line, posted_text, refused_line}
+use Rattle.usebin_cli.specs.PostText.{over_line, part_lines}
 use Rattle.usebin_cli.specs.Printed.{fault_line, range_line}
-use Rattle.usebin_cli.specs.Reading.{Reading, HasFailed, IsReadOrOpen, IsBelow, Fits, Exceeds, most_text}
+use Rattle.usebin_cli.specs.declared.post.PostedFile.{PostedFile}
+use Rattle.usebin_cli.specs.declared.post.PostEnd.TheVariants.{LoginLimit}
+use Rattle.nntp_lines.specs.declared.login.Login.{Login}
+use Rattle.nntp_lines.specs.declared.why.Why.{Why}
+use Rattle.poster.specs.declared.index.Sent.{Sent}
+use Rattle.input_files.specs.Reading.{Reading, HasFailed, IsReadOrOpen, IsBelow, Fits, Exceeds, most_text}
 use Rattle.usebin_cli.specs.declared.reply.ReplyFault.{ReplyFault}
 use Rattle.usebin_cli.specs.declared.reply.ReplyFault.TheVariants.{NoReply, Code, Unfinished, Rest}
 use Rattle.usebin_cli.specs.declared.encode.Limit.{Limit}
@@ -25,6 +32,7 @@ abbrev pub IsTextFor : Words → Option (List (List ℕ × List ℕ)) → Readin
 IsTextFor (Refused number) files r text = ⊥
 IsTextFor (Asks (Encode asked)) files r text = IsEncoded asked files r.current text
 IsTextFor (Asks (Decode asked)) files r text = (p : BodyPart) × IsDecoded asked files r.current p × (text ≡ p.content)
+IsTextFor (Asks (Post asked)) files r text = (posted : PostedFile) × (moment : ℕ) × (text ≡ posted_text posted moment)
 IsTextFor (Asks (Check path)) files r text = (index : Index) × IsListed path files r.current index × (text ≡ counts_text (counts_of index))
 
 -- the text that the words ask for was written so
@@ -37,6 +45,7 @@ abbrev pub InputFailed : Words → Reading → Type 0
 InputFailed (Refused number) r = ⊥
 InputFailed (Asks (Encode asked)) r = HasFailed (IsAskedCall asked r.current) r
 InputFailed (Asks (Decode asked)) r = HasFailed (IsReadOrOpen asked.path) r
+InputFailed (Asks (Post asked)) r = HasFailed (IsPostCall asked) r
 InputFailed (Asks (Check path)) r = HasFailed (IsReadOrOpen path) r
 
 -- a text with the end of its line
@@ -66,6 +75,7 @@ abbrev pub IsLimitLine : Words → Option ℕ → List ℕ → Type 0
 IsLimitLine (Refused number) current text = ⊥
 IsLimitLine (Asks (Encode asked)) current text = (limit : Limit) × IsOver asked current limit × (text ≡ limit_line limit)
 IsLimitLine (Asks (Decode asked)) current text = Exceeds most_text current × (text ≡ line (codes "usebin: limit text 67108864"))
+IsLimitLine (Asks (Post asked)) current text = (limit : Limit) × IsTooLarge asked current limit × (text ≡ large_line limit)
 IsLimitLine (Asks (Check path)) current text = Exceeds most_text current × (text ≡ line (codes "usebin: limit text 67108864"))
 
 -- the words ask for what goes past a limit of a file of this length
@@ -77,13 +87,17 @@ abbrev pub IsAskedPlace : Words → Option ℕ → ℕ → Type 0
 IsAskedPlace (Refused number) current place = ⊥
 IsAskedPlace (Asks (Encode asked)) current place = IsInPart asked current place
 IsAskedPlace (Asks (Decode asked)) current place = IsBelow current place
+IsAskedPlace (Asks (Post asked)) current place = IsBelow current place
 IsAskedPlace (Asks (Check path)) current place = IsBelow current place
 
 -- the line for a text that is not in the grammar of what the words ask for: one that is to be decoded and has no body or is
--- no reply with one, or one that is to be checked and is no NZB, or passes a limit of its files or segments
+-- no reply with one, one that is to be checked and is no NZB, or passes a limit of its files or segments, or a login file that
+-- is too long or has a line that breaks a rule
 abbrev pub IsFaultLine : Words → Option (List (List ℕ × List ℕ)) → Option ℕ → List ℕ → Type 0
 IsFaultLine (Asks (Decode asked)) files current text =
     ((f : Fault) × IsNoBody asked files current f × (text ≡ fault_line f)) ⊎ ((f : ReplyFault) × IsNoReply asked files current f × (text ≡ reply_line f))
+IsFaultLine (Asks (Post asked)) files current text =
+    (IsLoginTooLong asked files current × (text ≡ last_line LoginLimit)) ⊎ ((number : ℕ) × IsLoginBroken asked files number × (text ≡ broken_line number))
 IsFaultLine (Asks (Check path)) files current text = (refusal : Refusal) × IsNoIndex path files current refusal × (text ≡ refusal_line refusal)
 IsFaultLine other files current text = ⊥
 
@@ -92,9 +106,10 @@ abbrev pub IsOutsideGrammar : Words → Option (List (List ℕ × List ℕ)) →
 IsOutsideGrammar words files current = (text : List ℕ) × IsFaultLine words files current text
 
 -- what the input tells at the path in the words is in the grammar of what they ask for, and within the limits: a body that is
--- to be decoded, or an NZB that is to be checked
+-- to be decoded, an NZB that is to be checked, or a file that is to be posted and its login file
 abbrev pub IsInGrammar : Words → Option (List (List ℕ × List ℕ)) → Option ℕ → Type 0
 IsInGrammar (Asks (Decode asked)) (Some files) current = (p : BodyPart) × IsDecoded asked (Some files) current p × Fits most_text current
+IsInGrammar (Asks (Post asked)) (Some files) current = (login : Option Login) × IsLoginAt asked.server asked.login (Some files) login × FitsAt asked files
 IsInGrammar (Asks (Check path)) (Some files) current = (index : Index) × IsListed path (Some files) current index
 IsInGrammar other files current = ⊥
 
@@ -105,9 +120,11 @@ IsInputLine words files r text =
     (Rose r.shorts_before r.shorts_now × IsAskedPlace words r.current r.short_place × (text ≡ codes "usebin: short " ++ decimal r.short_place ++ 10 ∷ []))
     ⊎ (IsLimitLine words r.current text ⊎ IsFaultLine words files r.current text)
 
--- what is told once the text for the output is made, and before it is written: of a decoded part its range
+-- what is told once the text for the output is made, and before it is written: of a decoded part its range, and of a posted
+-- file the parts that weren't posted
 abbrev pub IsNote : Words → Option (List (List ℕ × List ℕ)) → Option ℕ → List ℕ → Type 0
 IsNote (Asks (Decode asked)) files current note = (p : BodyPart) × IsDecoded asked files current p × (note ≡ range_line p)
+IsNote (Asks (Post asked)) files current note = (sent : List Sent) × (note ≡ part_lines 1 sent)
 IsNote other files current note = note ≡ []
 
 -- such a note and then a line
@@ -117,8 +134,29 @@ IsNoteAnd words files current last text = (note : List ℕ) × IsNote words file
 -- what a status has on standard error
 pub record IsErrorText (words : Words) (files : Option (List (List ℕ × List ℕ))) (r : Reading) (status : ℕ) (text : List ℕ) : Type 0 where
   pub done : status ≡ 0 → IsNote words files r.current text
+  pub in_part : status ≡ 1 → IsNote words files r.current text
   pub words_refused : status ≡ 2 → IsWordsLine words text
   pub input_fault : status ≡ 3 → text ≡ line (codes "usebin: input fault")
   pub output_fault : status ≡ 4 → IsNoteAnd words files r.current (line (codes "usebin: output fault")) text
+  pub no_link : status ≡ 5 → text ≡ line (codes "usebin: no link")
   pub input_refused : status ≡ 6 → IsInputLine words files r text
   pub memory : status ≡ 7 → text ≡ line (codes "usebin: no memory")
+  pub refused : status ≡ 8 → (code : ℕ) × IsNoteAnd words files r.current (refused_line code) text
+  pub over : status ≡ 9 → (reason : Why) × (text ≡ over_line reason)
+
+-- ---- links
+
+-- the words ask for a command that makes use of links
+abbrev pub UsesLinks : Words → Type 0
+UsesLinks (Asks (Post asked)) = ⊤
+UsesLinks other = ⊥
+
+-- what a post does, says and writes
+abbrev pub Posts : Words → Option (List (List ℕ × List ℕ)) → ℕ → Reading → Linked → Written → Written → ℕ → Type 0
+Posts (Asks (Post asked)) files moment r t w e status = PostTells asked files moment r t w e status
+Posts other files moment r t w e status = ⊤
+
+-- the statuses of all commands, and those of a command that makes use of links
+abbrev pub IsStatusOf : Words → ℕ → Type 0
+IsStatusOf words status =
+    (status ≡ 0) ⊎ ((status ≡ 2) ⊎ ((status ≡ 3) ⊎ ((status ≡ 4) ⊎ ((status ≡ 6) ⊎ ((status ≡ 7) ⊎ (UsesLinks words × ((status ≡ 1) ⊎ ((status ≡ 5) ⊎ ((status ≡ 8) ⊎ (status ≡ 9))))))))))

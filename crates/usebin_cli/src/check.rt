@@ -2,13 +2,14 @@
 ghost use Rattle.std.specs.Prelude.{◌≡◌, ◌<◌, ◌^◌, length, sum_by};
 ghost use Rattle.nzb_index.specs.Canonical.{IsValidIndex};
 ghost use Rattle.usebin_cli.specs.Check.{CheckEnds, bytes_of, counts_of as counts};
-ghost use Rattle.usebin_cli.specs.Reading.{reading};
+ghost use Rattle.input_files.specs.Reading.{reading};
 ghost use Rattle.usebin_cli.specs.Writing.{written};
 
 use crate::printed::write_counts;
-use crate::reading::{MOST_TEXT, ReadError, read_file};
-use crate::words::CheckWords;
+use crate::texts::MOST_TEXT;
 use crate::writing::write_all;
+use command_words::CheckWords;
+use input_files::{ReadError, read_file};
 use nzb_index::{FileEntry, Index, NzbError, NzbLimit, NzbReason, read_nzb};
 use std::alloc::Global;
 use ub_base::{Failed, Input, Sink};

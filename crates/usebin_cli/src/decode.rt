@@ -1,16 +1,16 @@
 // The command `decode`.
 ghost use Rattle.std.specs.Prelude.{◌≡◌};
-ghost use Rattle.usebin_cli.specs.Asked.{body_asked};
+ghost use Rattle.command_words.specs.Asked.{body_asked};
 ghost use Rattle.usebin_cli.specs.Decode.{DecodeEnds, ReadsLines, ReadsText, ToldRange, no_reply};
-ghost use Rattle.usebin_cli.specs.Reading.{reading};
+ghost use Rattle.input_files.specs.Reading.{reading};
 ghost use Rattle.usebin_cli.specs.Writing.{written};
 
-use crate::keys::Form;
 use crate::printed::write_range;
-use crate::reading::{MOST_TEXT, ReadError, read_file};
 use crate::reply::{ReplyError, ReplyFault, reply_lines};
-use crate::words::DecodeWords;
+use crate::texts::MOST_TEXT;
 use crate::writing::write_all;
+use command_words::{DecodeWords, Form};
+use input_files::{ReadError, read_file};
 use std::alloc::Global;
 use ub_base::{Bytes, Failed, Input, Lines, Memory, Sink};
 use yenc_body::{BodyError, Fault, Part, read_body, split_text};

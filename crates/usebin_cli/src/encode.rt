@@ -1,24 +1,24 @@
 // The command `encode`.
 ghost use Rattle.std.specs.Prelude.{◌≡◌, ◌≤◌};
-ghost use Rattle.usebin_cli.specs.Asked.{asked_of, IsEncodeAllowed};
-ghost use Rattle.usebin_cli.specs.Body.{parts_of as parts_of_file};
+ghost use Rattle.yenc_body.specs.Parts.{parts_of as parts_of_file};
+ghost use Rattle.command_words.specs.Asked.{asked_of, IsEncodeAllowed};
 ghost use Rattle.usebin_cli.specs.Encode.{EncodeEnds, IsPartOrLimit, ReadsPart};
-ghost use Rattle.usebin_cli.specs.Reading.{reading};
+ghost use Rattle.input_files.specs.Reading.{reading};
 ghost use Rattle.usebin_cli.specs.Writing.{written};
 
 use crate::body::{body_of, text_of};
-use crate::reading::{ReadError, read_part};
-use crate::words::EncodeWords;
 use crate::writing::write_all;
+use command_words::EncodeWords;
+use input_files::{ReadError, read_part};
 use std::alloc::Global;
 use ub_base::{Bytes, Failed, Input, Sink};
 use yenc_body::BodySpec;
 
 // How many bytes a file may have.
-const MOST_BYTES: u64 = 1_099_511_627_776;
+pub(crate) const MOST_BYTES: u64 = 1_099_511_627_776;
 
 // How many parts a file may have.
-const MOST_PARTS: u64 = 262_144;
+pub(crate) const MOST_PARTS: u64 = 262_144;
 
 /// What is wrong with a file, or with the part that is asked of it.
 #[derive(Clone, Copy, Debug, PartialEq, Eq)]
@@ -138,7 +138,7 @@ fn spec_of(asked: EncodeWords<'_>, size: u64) -> Result<BodySpec, Limit>
 }
 
 // How many parts of a length a file has: one where it has no bytes.
-fn parts_of(size: u64, part_size: u32) -> u64
+pub(crate) fn parts_of(size: u64, part_size: u32) -> u64
     requires { 1 ≤ part_size }
     ensures { result ≡ parts_of_file size part_size }
 {

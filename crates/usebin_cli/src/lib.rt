@@ -5,16 +5,14 @@ mod body;
 mod check;
 mod decode;
 mod encode;
-mod keys;
 mod nothing;
+mod post;
 mod printed;
-mod reading;
 mod reply;
 mod statuses;
+mod texts;
 mod top;
-mod words;
 mod writing;
 
 pub use nothing::{NoLinks, NoStore};
 pub use top::usebin;
-pub use words::refused_word;

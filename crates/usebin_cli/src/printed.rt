@@ -4,11 +4,14 @@ ghost use Rattle.std.specs.Fmt.{decimal};
 ghost use Rattle.crc_field.specs.Hex.{hex_digits};
 ghost use Rattle.yenc_lines.specs.Keywords.{key_name};
 ghost use Rattle.usebin_cli.specs.Check.{counts_text, nzb_reason_text, place_line};
+ghost use Rattle.usebin_cli.specs.PostText.{end_line, end_text, over_line, why_text};
 ghost use Rattle.usebin_cli.specs.Printed.{fault_line, key_fault_text, range_line, reason_text, with_value, with_values};
 
 use crate::check::Counts;
 use crc_field::write_hex;
+use nntp_lines::Why;
 use nzb_index::NzbReason;
+use poster::PartEnd;
 use ub_base::write_dec;
 use yenc_body::{Fault, Part, Reason};
 use yenc_lines::{Key, KeyFault};
@@ -71,6 +74,30 @@ pub(crate) fn write_counts(counts: Counts, out: &mut LineBuffer) -> usize
     let at = put_number(out, at, counts.segments);
     let at = put(out, at, b"\nbytes ");
     let at = put_number(out, at, counts.bytes);
+    put(out, at, b"\n")
+}
+
+/// Writes the line of a link that is over to the front of a buffer, and answers its length.
+#[tactic(auto, unfolding(crate::specs::PostText::over_line))]
+pub(crate) fn write_over(why: Why, out: &mut LineBuffer) -> usize
+    ensures text { take result out.new ≡ over_line why }
+    ensures room { result ≤ 160 }
+{
+    let at = put(out, 0, b"usebin: link over ");
+    let at = put_why(out, at, why);
+    put(out, at, b"\n")
+}
+
+/// Writes the line of what became of a part to the front of a buffer, and answers its length.
+#[tactic(auto, unfolding(crate::specs::PostText::end_line))]
+pub(crate) fn write_end(number: u64, end: PartEnd, out: &mut LineBuffer) -> usize
+    ensures text { take result out.new ≡ end_line number end }
+    ensures room { result ≤ 160 }
+{
+    let at = put(out, 0, b"part ");
+    let at = put_number(out, at, number);
+    let at = put(out, at, b" ");
+    let at = put_end(out, at, end);
     put(out, at, b"\n")
 }
 
@@ -192,4 +219,48 @@ fn put_crcs(out: &mut LineBuffer, at: usize, said: u32, crc: u32) -> usize
     let at = put(out, at, &write_hex(said));
     let at = put(out, at, b" ");
     put(out, at, &write_hex(crc))
+}
+
+// Puts why a link is over.
+fn put_why(out: &mut LineBuffer, at: usize, why: Why) -> usize
+    requires { at + 64 ≤ 160 }
+    ensures text { take result out.new ≡ take at out.old ++ why_text why }
+    ensures end { result ≤ at + 64 }
+{
+    match why {
+        Why::Ended => put(out, at, b"ended"),
+        Why::Quiet => put(out, at, b"quiet"),
+        Why::Greeting(code) => put_code(out, at, b"greeting", code),
+        Why::Login(code) => put_code(out, at, b"login", code),
+        Why::Odd(code) => put_code(out, at, b"odd", code),
+        Why::NoReply => put(out, at, b"noreply"),
+        Why::TooLong => put(out, at, b"toolong"),
+        Why::Unasked => put(out, at, b"unasked"),
+    }
+}
+
+// Puts what became of a part.
+fn put_end(out: &mut LineBuffer, at: usize, end: PartEnd) -> usize
+    requires { at + 64 ≤ 160 }
+    ensures text { take result out.new ≡ take at out.old ++ end_text end }
+    ensures end { result ≤ at + 64 }
+{
+    match end {
+        PartEnd::Posted => put(out, at, b"posted"),
+        PartEnd::Refused(code) => put_code(out, at, b"refused", code),
+        PartEnd::Unsure => put(out, at, b"unsure"),
+        PartEnd::NotSent => put(out, at, b"notsent"),
+    }
+}
+
+// Puts a name and a code behind it.
+fn put_code(out: &mut LineBuffer, at: usize, name: &[u8], code: u16) -> usize
+    requires room { at + 64 ≤ 160 }
+    requires name { length name.now ≤ 16 }
+    ensures text { take result out.new ≡ take at out.old ++ with_value name.now (decimal code) }
+    ensures end { result ≤ at + 64 }
+{
+    let at = put(out, at, name);
+    let at = put(out, at, b" ");
+    put_number(out, at, u64::from(code))
 }

@@ -2,14 +2,16 @@
 ghost use Rattle.std.specs.Prelude.{◌≡◌, ◌++◌, ◌∷◌, [], codes};
 ghost use Rattle.std.specs.Fmt.{decimal};
 ghost use Rattle.usebin_cli.specs.Check.{nzb_limit_line, place_line};
+ghost use Rattle.usebin_cli.specs.PostText.{over_line};
 ghost use Rattle.usebin_cli.specs.Printed.{fault_line};
 ghost use Rattle.usebin_cli.specs.Run.{limit_line, line, reply_line};
 ghost use Rattle.usebin_cli.specs.Writing.{written, Got};
 
 use crate::encode::Limit;
-use crate::printed::{write_fault, write_place};
+use crate::printed::{write_fault, write_over, write_place};
 use crate::reply::ReplyFault;
 use crate::writing::{say, say_numbered};
+use nntp_lines::Why;
 use nzb_index::{NzbLimit, NzbReason};
 use ub_base::Sink;
 use yenc_body::Fault;
@@ -119,6 +121,53 @@ pub(crate) fn over_nzb_limit<E: Sink>(limit: NzbLimit, err: &mut E) -> u8
         NzbLimit::Segments => say(err, b"usebin: limit segments 262144\n"),
     }
     6
+}
+
+/// A login file is too long.
+pub(crate) fn login_too_long<E: Sink>(err: &mut E) -> u8
+    ensures status { result ≡ 6 }
+    ensures text { Got (line (codes "usebin: limit login 65536")) (written E.faults E.told err.old err.new) }
+{
+    say(err, b"usebin: limit login 65536\n");
+    6
+}
+
+/// A line of a login file breaks a rule.
+pub(crate) fn login_broken<E: Sink>(number: u64, err: &mut E) -> u8
+    ensures status { result ≡ 6 }
+    ensures text { Got (codes "usebin: login " ++ decimal number ++ 10 ∷ []) (written E.faults E.told err.old err.new) }
+{
+    say_numbered(err, b"usebin: login ", number);
+    6
+}
+
+/// No link was opened.
+pub(crate) fn no_link<E: Sink>(err: &mut E) -> u8
+    ensures status { result ≡ 5 }
+    ensures text { Got (line (codes "usebin: no link")) (written E.faults E.told err.old err.new) }
+{
+    say(err, b"usebin: no link\n");
+    5
+}
+
+/// The server refused to take an article at all, with this code.
+pub(crate) fn refused<E: Sink>(code: u16, err: &mut E) -> u8
+    ensures status { result ≡ 8 }
+    ensures text { Got (codes "usebin: refused " ++ decimal code ++ 10 ∷ []) (written E.faults E.told err.old err.new) }
+{
+    say_numbered(err, b"usebin: refused ", u64::from(code));
+    8
+}
+
+/// The link was over before anything was done.
+pub(crate) fn link_over<E: Sink>(why: Why, err: &mut E) -> u8
+    ensures status { result ≡ 9 }
+    ensures text { Got (over_line why) (written E.faults E.told err.old err.new) }
+{
+    let mut buffer = [0; 160];
+    let len = write_over(why, &mut buffer);
+    say(err, &buffer[..len]);
+    9
 }
 
 /// No memory was left.

@@ -1,35 +1,41 @@
 // The top call: all that the program does.
 ghost use Rattle.std.specs.Prelude.{◌≡◌, ◌≢◌, ◌≤◌, ◌<◌, ◌↔◌, ◌⊎◌, ℕ, List, map, string_bytes};
 ghost use Rattle.ub_base.specs.Causes.{Rose};
-ghost use Rattle.usebin_cli.specs.CommandLine.{words_of, IsRefused};
-ghost use Rattle.usebin_cli.specs.Reading.{reading};
-ghost use Rattle.usebin_cli.specs.Run.{Wrote, InputFailed, IsErrorText, IsInGrammar, IsOutsideGrammar, IsOverLimit};
+ghost use Rattle.command_words.specs.CommandLine.{words_of, IsRefused};
+ghost use Rattle.input_files.specs.Reading.{reading};
+ghost use Rattle.usebin_cli.specs.Post.{linked};
+ghost use Rattle.usebin_cli.specs.Run.{Wrote, InputFailed, IsErrorText, IsInGrammar, IsOutsideGrammar, IsOverLimit, IsStatusOf, Posts, UsesLinks};
 ghost use Rattle.usebin_cli.specs.Writing.{written, Got, IsUntouched, WroteFront, WroteWhole};
 
 use crate::check::{CheckEnd, check};
 use crate::decode::{DecodeEnd, decode};
 use crate::encode::{EncodeEnd, encode};
+use crate::post::post_and_tell;
 use crate::statuses::{
     input_fault, no_body, no_index, no_memory, no_reply, output_fault, over_limit, over_nzb_limit,
     short, text_too_long, words_refused,
 };
-use crate::words::{Command, read_words};
+use command_words::{Command, read_words};
 use std::alloc::Global;
 use ub_base::{Input, Links, Sink, Store};
 
 /// Does what the words ask for, and answers the status.
 ///
-/// `words` are those behind the program's name. `moment` is the time in seconds of Unix time, of which no command makes
-/// use yet, and neither does any of `store` and `links`.
+/// `words` are those behind the program's name. `moment` is the time in seconds of Unix time. No command makes use of `store`
+/// yet, and only `post` of `links`.
 ///
 /// | Status | Comes |
 /// |---|---|
-/// | 0 | the text was written whole |
+/// | 0 | the text was written whole, and of a file that was posted each part was taken |
+/// | 1 | some part of a file wasn't posted, and the text was written whole |
 /// | 2 | exactly where the words are refused |
 /// | 3 | only where the count of faults of `input` rose |
 /// | 4 | only where the count of faults of `out` rose |
+/// | 5 | only where no link was opened, and the count of faults of `links` rose |
 /// | 6 | exactly where a read gave no byte below the file's length, the file or its asked part goes past a limit, or a text isn't in the grammar that is asked for |
 /// | 7 | want of memory, at any moment after the words are read |
+/// | 8 | exactly where the server refused to be sent an article, unless memory is wanting |
+/// | 9 | exactly where the link was over before a byte of an article was sent |
 #[allow(clippy::too_many_arguments)]
 pub fn usebin<I: Input, T: Store, L: Links, O: Sink, E: Sink>(
     alloc: Global,
@@ -67,13 +73,17 @@ pub fn usebin<I: Input, T: Store, L: Links, O: Sink, E: Sink>(
     ensures short { I.shorts input.old < I.shorts input.new → (result ≡ 6) ⊎ (result ≡ 7) }
     ensures over_limit { IsOverLimit (words_of (map string_bytes words.now)) (I.current input.new) → result ≡ 6 }
 
-    // No other status is answered, and but for 0 and 4 nothing is written to `out`.
-    ensures statuses { (result ≡ 0) ⊎ ((result ≡ 2) ⊎ ((result ≡ 3) ⊎ ((result ≡ 4) ⊎ ((result ≡ 6) ⊎ (result ≡ 7))))) }
-    ensures untouched { result ≢ 0 → result ≢ 4 → IsUntouched (written O.faults O.told out.old out.new) }
+    // What `post` does over its link, says of each part and writes, and with which of its statuses that ends.
+    ensures posts { Posts (words_of (map string_bytes words.now)) (I.files input.old) moment (reading I.faults I.shorts I.short_place I.current I.blame input.old input.new)
+        (linked L.trace L.faults L.blame links.old links.new) (written O.faults O.told out.old out.new) (written E.faults E.told err.old err.new) result }
 
-    // The other objects are as they were.
+    // No other status is answered, and but for 0, 1 and 4 nothing is written to `out`.
+    ensures statuses { IsStatusOf (words_of (map string_bytes words.now)) result }
+    ensures untouched { result ≢ 0 → result ≢ 1 → result ≢ 4 → IsUntouched (written O.faults O.told out.old out.new) }
+
+    // The other objects are as they were, but for the links of a command that makes use of them.
     ensures store { store.new ≡ store.old }
-    ensures links { links.new ≡ links.old }
+    ensures links { ¬ UsesLinks (words_of (map string_bytes words.now)) → links.new ≡ links.old }
 
     // `err` has got the line of the status, or a front of it where a write to `err` failed, which changes no status.
     ensures error_text { (text : List ℕ) × IsErrorText (words_of (map string_bytes words.now)) (I.files input.old) (reading I.faults I.shorts I.short_place I.current I.blame input.old input.new) result text
@@ -101,6 +111,7 @@ pub fn usebin<I: Input, T: Store, L: Links, O: Sink, E: Sink>(
             // A write to `err` failed before, and nothing more is written to it.
             DecodeEnd::OutputFault(false) => 4,
         },
+        Ok(Command::Post(asked)) => post_and_tell(alloc, asked, moment, input, links, out, err),
         Ok(Command::Check(asked)) => match check(alloc, asked, input, out) {
             CheckEnd::Done => 0,
             CheckEnd::Memory => no_memory(err),

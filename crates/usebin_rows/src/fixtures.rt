@@ -46,6 +46,13 @@ pub(crate) struct Ran {
     pub(crate) err: MemSink,
 }
 
+impl Ran {
+    /// Whether it answered this status and wrote these texts.
+    pub(crate) fn ended(&self, status: u8, out: &[u8], err: &[u8]) -> bool {
+        self.status == status && self.out.bytes() == out && self.err.bytes() == err
+    }
+}
+
 /// Runs the top call. The writes of these numbers to the output fail.
 pub(crate) fn run<I: Input>(
     alloc: Global,

@@ -1,4 +1,4 @@
-//! The worked cases of usebin: tests of the top call, over objects in memory.
+//! The worked cases of the commands that need no server: tests of the top call, over objects in memory.
 #![tactic(auto)]
 
 #[cfg(test)]
@@ -9,5 +9,3 @@ mod decode;
 mod encode;
 #[cfg(test)]
 mod fixtures;
-#[cfg(test)]
-mod words;

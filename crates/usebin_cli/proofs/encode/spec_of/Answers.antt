@@ -1,9 +1,10 @@
 use Rattle.std.proofs.Common.{◌≡◌, ◌≤◌, ◌+◌, ◌*◌, arith, sym, subst}
 use Rattle.yenc_body.specs.Canonical.{IsPart}
+use Rattle.yenc_body.specs.Parts.{part_length, parts_of}
 use Rattle.yenc_body.specs.declared.spec.BodySpec.{BodySpec}
-use Rattle.usebin_cli.specs.Asked.{asked_of}
-use Rattle.usebin_cli.specs.Body.{part_length, part_spec, parts_of}
-use Rattle.usebin_cli.proofs.PartLemmas.{is_part, no_limit}
+use Rattle.command_words.specs.Asked.{asked_of}
+use Rattle.usebin_cli.specs.Body.{part_spec}
+use Rattle.usebin_cli.proofs.PartLemmas.{asked_is_part, no_limit}
 use Rattle.usebin_cli.proofs.encode.spec_of.Goals as goal
 
 pub returns : goal.returns
@@ -17,5 +18,5 @@ returns c =
       no_limit asked.part_size asked.part c.args.size c.if-size-gt-MOST_BYTES.false parts there,
       spec_is,
       subst (λ (spec : BodySpec). IsPart spec (part_length c.args.size asked.part_size asked.part)) (sym spec_is)
-          (is_part asked c.args.size c.requires.line_least c.requires.line_most c.requires.part_size_least c.requires.part_size_most c.requires.part_least c.if-size-gt-MOST_BYTES.false there),
+          (asked_is_part asked c.args.size c.requires.line_least c.requires.line_most c.requires.part_size_least c.requires.part_size_most c.requires.part_least c.if-size-gt-MOST_BYTES.false there),
     )

@@ -1,9 +1,11 @@
 use Rattle.std.proofs.Common.{refl, inl, inr}
 use Rattle.nzb_index.specs.NzbReading.{refused_at, past}
-use Rattle.usebin_cli.specs.Asked.{asked_of, body_asked}
-use Rattle.usebin_cli.specs.Reading.{reading}
+use Rattle.command_words.specs.Asked.{asked_of, body_asked}
+use Rattle.input_files.specs.Reading.{reading}
 use Rattle.usebin_cli.proofs.RunLemmas.{over_limit}
 use Rattle.usebin_cli.proofs.TopLemmas.{body_no_reply_fault, body_not_refused, body_not_too_long, decode_fault_half_text, decode_fault_text, check_tells_nothing, decoded_text, encode_tells_nothing, no_nzb, nzb_is_not_refused, nzb_is_not_too_long, no_nzb_line, nzb_too_long, refused_text, silent_fault_text, silent_text, text_no_body, text_no_reply, text_too_long}
+use Rattle.command_words.specs.Post.{post_found}
+use Rattle.usebin_cli.proofs.PostLemmas.{post_done, post_fault, post_in_grammar, post_refused, post_text}
 use Rattle.usebin_cli.proofs.top.usebin.Goals as goal
 
 pub returns-in-Done-clause-error_text : goal.returns-in-Done-clause-error_text
@@ -101,3 +103,18 @@ pub returns-in-Limit-check-clause-error_text : goal.returns-in-Limit-check-claus
 returns-in-Limit-check-clause-error_text g c =
     refused_text _ _ _ _ _ _ c.over_nzb_limit.ensures.status (no_nzb_line _ _ c.in-Ok-Check.asked.path.now
     (reading g.I.Input.faults g.I.Input.shorts g.I.Input.short_place g.I.Input.current g.I.Input.blame c.args.input.now c.check.new.input) (past c.in-Limit-check.limit) (rw c.in-Ok-Check.field-0-is at c.in-Ok-Check.ensures.words) c.in-Limit-check.ensures.2) c.over_nzb_limit.ensures.text
+
+pub returns-in-Ok-Post-clause-done : goal.returns-in-Ok-Post-clause-done
+returns-in-Ok-Post-clause-done g c = post_done _ (post_found c.in-Ok-Post.asked) _ _ _ _ _ _ _ (rw c.in-Ok-Post.field-0-is at c.in-Ok-Post.ensures.words) c.post_and_tell.ensures
+
+pub returns-in-Ok-Post-clause-output_fault : goal.returns-in-Ok-Post-clause-output_fault
+returns-in-Ok-Post-clause-output_fault g c = post_fault _ (post_found c.in-Ok-Post.asked) _ _ _ _ _ _ _ (rw c.in-Ok-Post.field-0-is at c.in-Ok-Post.ensures.words) c.post_and_tell.ensures
+
+pub returns-in-Ok-Post-clause-input_refused : goal.returns-in-Ok-Post-clause-input_refused
+returns-in-Ok-Post-clause-input_refused g c = post_refused _ (post_found c.in-Ok-Post.asked) _ _ _ _ _ _ _ (rw c.in-Ok-Post.field-0-is at c.in-Ok-Post.ensures.words) c.post_and_tell.ensures
+
+pub returns-in-Ok-Post-clause-in_grammar : goal.returns-in-Ok-Post-clause-in_grammar
+returns-in-Ok-Post-clause-in_grammar g c = post_in_grammar _ (post_found c.in-Ok-Post.asked) _ _ _ _ _ _ _ (rw c.in-Ok-Post.field-0-is at c.in-Ok-Post.ensures.words) c.post_and_tell.ensures
+
+pub returns-in-Ok-Post-clause-error_text : goal.returns-in-Ok-Post-clause-error_text
+returns-in-Ok-Post-clause-error_text g c = post_text _ (post_found c.in-Ok-Post.asked) _ _ _ _ _ _ _ (rw c.in-Ok-Post.field-0-is at c.in-Ok-Post.ensures.words) c.post_and_tell.ensures

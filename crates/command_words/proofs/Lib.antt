@@ -1,0 +1,5 @@
+pub mod KeysLemmas
+pub mod PostLaws
+pub mod PostLemmas
+mod Rows
+pub mod WordsLemmas

@@ -1,0 +1,5 @@
+pub mod Asked
+pub mod CommandLine
+pub mod Keys
+pub mod Post
+pub mod PostValues

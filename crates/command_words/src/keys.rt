@@ -1,0 +1,246 @@
+// Pairs of a key and its value on the command line. A command's keys are a table; the words are judged by it from the left.
+ghost use Rattle.std.specs.Prelude.{◌≡◌, ◌≤◌, ◌<◌, IfSome, length, map, string_bytes};
+ghost use Rattle.std.specs.Option.{option_and_then, option_copied, option_map, unwrap_or};
+ghost use Rattle.std.specs.List.{list_all};
+ghost use Rattle.command_words.specs.Keys.{file_name as file_name_of, form_of, has_leading_zero, is_header_name, is_printable, key_of, number_in, stands_as_key, value_of};
+ghost use Rattle.command_words.specs.declared.keys.Form.TheVariants.{File};
+ghost use Rattle.command_words.specs.Asked.{key_model, paired, takes_by, ChecksPair, ChecksPairs};
+
+use article_head::{is_comment, is_domain, is_from, is_newsgroups, is_token};
+use news_server::is_server;
+use ub_base::read_dec;
+
+/// Which values a key takes.
+#[derive(Clone, Copy, Debug, PartialEq, Eq)]
+pub(crate) enum Rule {
+    /// A path, not empty.
+    Path,
+    /// A path whose part behind the last slash can be the name in a header.
+    NamedPath,
+    /// 1 to 255 printable characters of ASCII, with no space at either end.
+    HeaderName,
+    /// A number in decimal digits without leading zeros, within these limits.
+    Number { least: u32, most: u32 },
+    /// How a body was saved: `file` or `wire`.
+    Form,
+    /// Where a news server is: `HOST:PORT`.
+    Server,
+    /// Who posts an article.
+    From,
+    /// Names of newsgroups with commas between them.
+    Newsgroups,
+    /// What a subject begins with.
+    Comment,
+    /// What message-ids begin with.
+    Token,
+    /// The domain in message-ids.
+    Domain,
+}
+
+/// How a body was saved.
+#[derive(Clone, Copy, Debug, PartialEq, Eq)]
+pub enum Form {
+    /// As the lines of a file.
+    File,
+    /// As the reply of a news server, off the wire.
+    Wire,
+}
+
+/// A key that a command knows.
+#[derive(Clone, Copy, Debug)]
+pub(crate) struct Key {
+    /// The word, with its dashes.
+    pub(crate) word: &'static str,
+    /// The values that it takes.
+    pub(crate) rule: Rule,
+}
+
+/// Judges the words behind a command, of which the first is the second of all, by the command's keys. The number of the
+/// first refused word is the error; one behind the last word says that a value is missing.
+pub(crate) fn check_pairs(keys: &[Key], words: &[String]) -> Result<(), u64>
+    ensures { ChecksPairs (map key_model keys.now) (map string_bytes words.now) result }
+{
+    let mut at = 0;
+    while at < words.len() {
+        if let Err(number) = check_pair(keys, words, at) {
+            return Err(number);
+        }
+        at += 2;
+    }
+    Ok(())
+}
+
+// Judges the pair at an index, behind other pairs.
+fn check_pair(keys: &[Key], words: &[String], at: usize) -> Result<(), u64>
+    requires { at < length words.now }
+    ensures { ChecksPair (map key_model keys.now) (map string_bytes words.now) at result }
+{
+    let number = at as u64 + 2;
+    let word = words[at].as_str();
+    let Some(key) = find_key(keys, word) else {
+        return Err(number);
+    };
+    if value_in(&words[..at], word).is_some() {
+        return Err(number);
+    }
+    if at + 1 == words.len() {
+        return Err(number + 1);
+    }
+    if !takes(key.rule, words[at + 1].as_str()) {
+        return Err(number + 1);
+    }
+    Ok(())
+}
+
+// The key that a word is.
+fn find_key(keys: &[Key], word: &str) -> Option<Key>
+    ensures { option_map key_model result ≡ key_of (map key_model keys.now) word.now }
+{
+    for key in keys {
+        if word == key.word {
+            return Some(*key);
+        }
+    }
+    None
+}
+
+// Whether a value keeps to a rule.
+#[tactic(auto, using(crate::proofs::PostLaws::same_from, crate::proofs::PostLaws::same_comment, crate::proofs::PostLaws::same_token))]
+fn takes(rule: Rule, value: &str) -> bool
+    ensures { result ≡ takes_by rule value.now }
+{
+    let bytes = value.as_bytes();
+    match rule {
+        Rule::Path => !value.is_empty(),
+        Rule::NamedPath => is_header_name(file_name(bytes)),
+        Rule::HeaderName => is_header_name(bytes),
+        Rule::Number { least, most } => number_in(value, least, most).is_some(),
+        Rule::Form => form_in(value).is_some(),
+        Rule::Server => is_server(bytes),
+        Rule::From => is_from(bytes),
+        Rule::Newsgroups => is_newsgroups(bytes),
+        Rule::Comment => is_comment(bytes),
+        Rule::Token => is_token(bytes),
+        Rule::Domain => is_domain(bytes),
+    }
+}
+
+/// The value of a key in the pairs that these words are.
+pub(crate) fn value_in<'a>(words: &'a [String], key: &str) -> Option<&'a str>
+    ensures { option_copied result ≡ value_of key.now (paired (map string_bytes words.now)) }
+{
+    let mut at = 0;
+    while at + 1 < words.len() {
+        if key == words[at].as_str() {
+            return Some(words[at + 1].as_str());
+        }
+        at += 2;
+    }
+    None
+}
+
+/// The number that is the value of a key in the pairs that these words are, or the default where it has none in the limits.
+pub(crate) fn number_or(words: &[String], key: &str, least: u32, most: u32, default: u32) -> u32
+    requires least { least ≤ default }
+    requires most { default ≤ most }
+    ensures least { least ≤ result }
+    ensures most { result ≤ most }
+    ensures value { result ≡ unwrap_or (option_and_then (number_in least most) (value_of key.now (paired (map string_bytes words.now)))) default }
+{
+    match value_in(words, key) {
+        Some(value) => match number_in(value, least, most) {
+            Some(number) => number,
+            None => default,
+        },
+        None => default,
+    }
+}
+
+// The number that a value is, within limits. No zero stands in front of other digits.
+fn number_in(value: &str, least: u32, most: u32) -> Option<u32>
+    ensures value { result ≡ number_in least most value.now }
+    ensures least { IfSome result (λ number. least ≤ number) }
+    ensures most { IfSome result (λ number. number ≤ most) }
+{
+    if has_leading_zero(value.as_bytes()) {
+        return None;
+    }
+    match read_dec(value.as_bytes(), u64::from(most)) {
+        Some(number) if number >= u64::from(least) => Some(number as u32),
+        _ => None,
+    }
+}
+
+fn has_leading_zero(value: &[u8]) -> bool
+    ensures { result ≡ has_leading_zero value.now }
+{
+    value.len() > 1 && value[0] == b'0'
+}
+
+/// The form that is the value of a key in the pairs that these words are, or that of a file.
+pub(crate) fn form_or_file(words: &[String], key: &str) -> Form
+    ensures { result ≡ unwrap_or (option_and_then form_of (value_of key.now (paired (map string_bytes words.now)))) File }
+{
+    match value_in(words, key) {
+        Some(value) => form_in(value).unwrap_or(Form::File),
+        None => Form::File,
+    }
+}
+
+fn form_in(value: &str) -> Option<Form>
+    ensures { result ≡ form_of value.now }
+{
+    match value {
+        "file" => Some(Form::File),
+        "wire" => Some(Form::Wire),
+        _ => None,
+    }
+}
+
+/// Whether a word stands where a key stands.
+pub(crate) fn has_key(words: &[String], key: &str) -> bool
+    ensures { result ≡ stands_as_key key.now (map string_bytes words.now) }
+{
+    let mut at = 0;
+    while at < words.len() {
+        if key == words[at].as_str() {
+            return true;
+        }
+        at += 2;
+    }
+    false
+}
+
+/// The bytes behind the last slash.
+pub(crate) fn file_name(path: &[u8]) -> &[u8]
+    ensures { result.now ≡ file_name_of path.now }
+{
+    let mut name = path;
+    let mut rest = path;
+    while let [byte, after @ ..] = rest {
+        if *byte == b'/' {
+            name = after;
+        }
+        rest = after;
+    }
+    name
+}
+
+// Whether a header can carry these bytes as a name that was given on the command line.
+fn is_header_name(name: &[u8]) -> bool
+    ensures { result ≡ is_header_name name.now }
+{
+    if name.is_empty() || name.len() > 255 {
+        return false;
+    }
+    if name[0] == b' ' || name[name.len() - 1] == b' ' {
+        return false;
+    }
+    all_printable(name)
+}
+
+fn all_printable(name: &[u8]) -> bool
+    ensures { result ≡ list_all is_printable name.now }
+{
+    name.iter().all(|byte| (32..=126).contains(byte))
+}

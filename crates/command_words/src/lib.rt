@@ -1,0 +1,10 @@
+//! The words of the command line: what each command takes, and what the words ask for.
+#![tactic(auto)]
+
+mod keys;
+mod post;
+mod words;
+
+pub use keys::Form;
+pub use post::{PostWords, read_post};
+pub use words::{CheckWords, Command, DecodeWords, EncodeWords, read_words, refused_word};

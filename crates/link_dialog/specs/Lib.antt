@@ -1,0 +1,17 @@
+pub mod Block
+pub mod BlockHearing
+pub mod BlockReader
+pub mod Dialog
+pub mod Events
+pub mod Fed
+pub mod Heard
+pub mod Hearing
+pub mod Judged
+pub mod Laws
+pub mod Moments
+pub mod Reader
+pub mod Reading
+pub mod Replies
+pub mod Sending
+pub mod Talk
+pub mod TalkBlock

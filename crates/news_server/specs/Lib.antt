@@ -1,0 +1,4 @@
+pub mod Cut
+pub mod LoginLine
+pub mod Logins
+pub mod Server

@@ -1,0 +1,5 @@
+pub mod Histories
+pub mod LinkLaws
+pub mod Places
+mod Rows
+pub mod Served

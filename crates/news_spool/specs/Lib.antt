@@ -1,0 +1,9 @@
+pub mod Answers
+pub mod Articles
+pub mod Fields
+pub mod History
+pub mod LinkState
+pub mod Links
+pub mod Pieces
+pub mod Spool
+pub mod Talk

@@ -1,0 +1,98 @@
+-- What a line does that a server in memory hears on a link: the talk goes on to another state, with a reply, and an article
+-- may be kept.
+use Rattle.std.specs.Prelude.{ℕ, Bool, true, false, ◌==◌, if◌then◌else◌, List, [], ◌∷◌, ◌++◌, length, Option, Some, None}
+use Rattle.dot_blocks.specs.BlockReading.{is_dot, unstuffed}
+use Rattle.news_spool.specs.declared.article.Article.{Article}
+use Rattle.news_spool.specs.declared.reply.Reply.{Reply}
+use Rattle.news_spool.specs.declared.reply.Reply.TheVariants as reply
+use Rattle.news_spool.specs.declared.talk.Phase.{Phase}
+use Rattle.news_spool.specs.declared.talk.Phase.TheVariants.{Commands, Head, Body, Over}
+use Rattle.news_spool.specs.declared.talk.Talk.{Talk}
+use Rattle.news_spool.specs.Answers.{login_word, reply_text, reply_to}
+use Rattle.news_spool.specs.Articles.{article_of, is_known}
+
+-- one more reply is owed
+abbrev pub owing : Reply → Talk → Talk
+owing reply talk = record { phase = talk.phase; name = talk.name; logged_in = talk.logged_in; owed = talk.owed ++ reply_text reply }
+
+-- something else comes next
+abbrev pub in_phase : Phase → Talk → Talk
+in_phase phase talk = record { phase = phase; name = talk.name; logged_in = talk.logged_in; owed = talk.owed }
+
+-- a talk begins with the greeting, which is answered to no line
+abbrev pub new_talk : Talk
+new_talk = record { phase = Commands; name = None; logged_in = false; owed = reply_text reply.Ready }
+
+-- what is kept of one that has ended
+abbrev pub ended_talk : Talk
+ended_talk = record { phase = Over; name = None; logged_in = false; owed = [] }
+
+-- ---- commands
+
+-- what comes behind a reply to a command
+abbrev pub phase_after : Reply → Phase
+phase_after reply.Send = Head []
+phase_after reply.Bye = Over
+phase_after other = Commands
+
+-- the name that came last
+abbrev pub name_after : Reply → List ℕ → Option (List ℕ) → Option (List ℕ)
+name_after reply.PassNext line name = Some (login_word line)
+name_after other line name = name
+
+abbrev pub logged_in_after : Reply → Bool → Bool
+logged_in_after reply.LoggedIn before = true
+logged_in_after other before = before
+
+-- what a reply to a command leaves
+abbrev pub after_reply : Reply → List ℕ → Talk → Talk
+after_reply reply line talk = record {
+  phase = phase_after reply;
+  name = name_after reply line talk.name;
+  logged_in = logged_in_after reply talk.logged_in;
+  owed = talk.owed ++ reply_text reply;
+}
+
+-- a command came, to a server with this login
+abbrev pub heard_command : Option (List ℕ × List ℕ) → List ℕ → Talk → Talk
+heard_command login line talk = after_reply (reply_to login talk.logged_in talk.name line) line talk
+
+-- ---- articles
+
+-- what an article is answered that has come whole: it is taken where it is one, and no other has its message-id
+abbrev pub article_reply : Option Article → List Article → Reply
+article_reply None articles = reply.Refused
+article_reply (Some article) articles = if is_known article.id articles then reply.Refused else reply.Posted
+
+abbrev pub articles_after : Option Article → List Article → List Article
+articles_after None articles = articles
+articles_after (Some article) articles = if is_known article.id articles then articles else articles ++ article ∷ []
+
+-- commands follow behind it
+abbrev pub judged : Option Article → Talk × List Article → Talk × List Article
+judged article heard = (owing (article_reply article heard.1) (in_phase Commands heard.0), articles_after article heard.1)
+
+-- a line of a head, or the empty line behind it; what ends before that is no article
+abbrev pub heard_head : List (List ℕ) → List ℕ → Talk → Talk
+heard_head head line talk =
+    if is_dot line then owing reply.Refused (in_phase Commands talk)
+    else if length line == 0 then in_phase (Body head []) talk
+    else in_phase (Head (head ++ unstuffed line ∷ [])) talk
+
+-- a line of a body, or the dot behind it
+abbrev pub heard_body : List (List ℕ) → List (List ℕ) → List ℕ → Talk × List Article → Talk × List Article
+heard_body head body line heard =
+    if is_dot line then judged (article_of head body) heard
+    else (in_phase (Body head (body ++ unstuffed line ∷ [])) heard.0, heard.1)
+
+-- ---- lines
+
+abbrev pub heard_in : Phase → Option (List ℕ × List ℕ) → List ℕ → Talk × List Article → Talk × List Article
+heard_in Commands login line heard = (heard_command login line heard.0, heard.1)
+heard_in (Head head) login line heard = (heard_head head line heard.0, heard.1)
+heard_in (Body head body) login line heard = heard_body head body line heard
+heard_in Over login line heard = heard
+
+-- a line came, without its CRLF
+abbrev pub heard_line : Option (List ℕ × List ℕ) → List ℕ → Talk × List Article → Talk × List Article
+heard_line login line heard = heard_in heard.0.phase login line heard

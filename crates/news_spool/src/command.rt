@@ -1,0 +1,82 @@
+// Commands as a server in memory hears them. Keywords are read in upper case alone.
+ghost use Rattle.std.specs.Prelude.{◌≡◌, ◌≢◌, ◌≤◌, length};
+ghost use Rattle.news_spool.specs.Answers.{is_authinfo, login_reply, pass_reply, reply_to};
+
+use crate::reply::Reply;
+use ub_base::Bytes;
+
+// The greatest length of a command in bytes, without its CRLF (RFC 3977, 3.1).
+const MOST: usize = 510;
+
+// How many bytes stand before the argument of `AUTHINFO USER ` and `AUTHINFO PASS `.
+pub(crate) const LOGIN_WORD: usize = 14;
+
+// The reply to a command without its CRLF, by the server's login, whether the link is logged in, and the name that came
+// last.
+#[tactic(auto, unfolding(crate::specs::Answers::reply_to))]
+pub(crate) fn reply_to(
+    login: &Option<(Bytes, Bytes)>,
+    logged_in: bool,
+    name: &Option<Bytes>,
+    line: &[u8],
+) -> Reply
+    ensures reply { result ≡ reply_to login.now logged_in name.now line.now }
+    ensures word { result ≡ Reply.PassNext → 14 ≤ length line.now }
+{
+    if line.len() > MOST {
+        return Reply::What;
+    }
+    if line == b"QUIT".as_slice() {
+        return Reply::Bye;
+    }
+    if is_authinfo(line) {
+        return login_reply(login, name, line);
+    }
+    if login.is_some() && !logged_in {
+        return Reply::LoginFirst;
+    }
+    if line == b"POST".as_slice() {
+        return Reply::Send;
+    }
+    Reply::What
+}
+
+fn is_authinfo(line: &[u8]) -> bool
+    ensures { result ≡ is_authinfo line.now }
+{
+    line == b"AUTHINFO".as_slice() || line.strip_prefix(b"AUTHINFO ").is_some()
+}
+
+fn login_reply(login: &Option<(Bytes, Bytes)>, name: &Option<Bytes>, line: &[u8]) -> Reply
+    ensures reply { result ≡ login_reply login.now name.now line.now }
+    ensures word { result ≡ Reply.PassNext → 14 ≤ length line.now }
+{
+    match login {
+        None => Reply::NoLogin,
+        Some(own) => {
+            if line.strip_prefix(b"AUTHINFO USER ").is_some() {
+                return Reply::PassNext;
+            }
+            match line.strip_prefix(b"AUTHINFO PASS ") {
+                Some(password) => pass_reply(own, name, password),
+                None => Reply::What,
+            }
+        }
+    }
+}
+
+fn pass_reply(own: &(Bytes, Bytes), name: &Option<Bytes>, password: &[u8]) -> Reply
+    ensures reply { result ≡ pass_reply own.now name.now password.now }
+    ensures word { result ≢ Reply.PassNext }
+{
+    match name {
+        None => Reply::NameFirst,
+        Some(name) => {
+            if own.0.as_slice() == name.as_slice() && own.1.as_slice() == password {
+                Reply::LoggedIn
+            } else {
+                Reply::WrongLogin
+            }
+        }
+    }
+}

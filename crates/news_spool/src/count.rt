@@ -1,0 +1,26 @@
+// Counts that never fall, and what a failed opening is blamed on.
+ghost use Rattle.std.specs.Prelude.{◌≡◌, ◌≤◌, ◌⊎◌, Some, None};
+ghost use Rattle.ub_base.specs.Causes.{Rose, next_count};
+
+use std::alloc::Global;
+use ub_base::{Blame, Bytes, Memory};
+
+// One more, up to the greatest number.
+pub(crate) fn raised(count: u64) -> u64
+    ensures value { result ≡ next_count count }
+    ensures later { count ≤ result }
+    ensures rose { Rose count result }
+{
+    count.saturating_add(1)
+}
+
+// The blame for an opening, or nothing where there is no room for its address.
+pub(crate) fn opening(alloc: Global, address: &[u8]) -> Option<Blame>
+    ensures { (result ≡ Some (Blame.Open address.now)) ⊎ (result ≡ None) }
+{
+    let mut bytes = Bytes::new(alloc);
+    match bytes.extend(address) {
+        Ok(()) => Some(Blame::Open(bytes)),
+        Err(Memory) => None,
+    }
+}

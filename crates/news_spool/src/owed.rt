@@ -1,0 +1,63 @@
+// Bytes that are to be given, of which the first ones may have been.
+ghost use Rattle.std.specs.Prelude.{◌≡◌, ◌≤◌, [], ◌++◌, length, take, drop, OnOk, OnErr, IsTrue, ◌↔◌};
+
+use std::alloc::Global;
+use std::marker::Model;
+use ub_base::{Bytes, Memory};
+
+/// The bytes that a link is owed. Contracts see the list of those that weren't given yet.
+#[derive(Drop)]
+pub(crate) struct Owed {
+    bytes: Bytes,
+    given: usize,
+}
+
+impl Model for Owed {
+    ghost use Rattle.std.specs.Prelude.{List, ℕ, ◌≤◌, length, drop};
+
+    ghost Value = { List ℕ };
+
+    ghost view = { λ owed. drop owed.given owed.bytes };
+
+    ghost invariant = { λ owed. owed.given ≤ length owed.bytes };
+}
+
+impl Owed {
+    // Nothing. It takes no memory yet.
+    pub(crate) fn new(alloc: Global) -> Self
+        ensures { result ≡ [] }
+    {
+        Owed {
+            bytes: Bytes::new(alloc),
+            given: 0,
+        }
+    }
+
+    // All bytes that weren't given, in order.
+    pub(crate) fn as_slice(&self) -> &[u8]
+        ensures { result.now ≡ self.now }
+    {
+        &self.bytes.as_slice()[self.given..]
+    }
+
+    // Appends all of `more`, or changes nothing.
+    pub(crate) fn extend(&mut self, more: &[u8]) -> Result<(), Memory>
+        ensures ok { OnOk result (self.new ≡ self.old ++ more.now) }
+        ensures err { OnErr result (self.new ≡ self.old) }
+    {
+        self.bytes.extend(more)
+    }
+
+    // The first `n` bytes were given. The room of those that were is used again once nothing is owed.
+    pub(crate) fn pass(&mut self, n: usize)
+        requires { n ≤ length self.old }
+        ensures { self.new ≡ drop n self.old }
+    {
+        let end = self.bytes.len();
+        self.given += n;
+        if self.given == end {
+            self.bytes.clear();
+            self.given = 0;
+        }
+    }
+}

@@ -1,0 +1,210 @@
+// What is said on one link, line by line.
+ghost use Rattle.std.specs.Prelude.{◌≡◌, [], ◌++◌, length, take, IfOk, OnOk, false, None};
+ghost use Rattle.dot_blocks.specs.BlockReading.{is_dot, unstuffed};
+ghost use Rattle.news_spool.specs.Answers.{reply_text};
+
+use crate::article::Article;
+use crate::command::{LOGIN_WORD, reply_to};
+use crate::owed::Owed;
+use crate::reply::Reply;
+use std::alloc::Global;
+use std::mem;
+use ub_base::{Bytes, Lines, List, Memory};
+
+/// What the next line is that a server hears.
+#[derive(Drop)]
+pub(crate) enum Phase {
+    /// A command.
+    Commands,
+    /// A line of an article's head, of which these came.
+    Head(Lines),
+    /// A line of its body, behind this head and these lines.
+    Body(Lines, Lines),
+    /// Nothing that is heard: the session has ended.
+    Over,
+}
+
+/// Where the talk on a link stands.
+#[derive(Drop)]
+pub(crate) struct Talk {
+    /// What comes next.
+    pub(crate) phase: Phase,
+    /// The name that came last for a login.
+    pub(crate) name: Option<Bytes>,
+    /// Whether the login is done.
+    pub(crate) logged_in: bool,
+    /// What of the replies wasn't given yet.
+    pub(crate) owed: Owed,
+}
+
+impl Talk {
+    ghost use Rattle.news_spool.specs.Talk.{after_reply, articles_after, article_reply, ended_talk, heard_body, heard_command, heard_head, heard_line, in_phase, judged, new_talk, owing};
+
+    // A talk that begins with the greeting.
+    pub(crate) fn new(alloc: Global) -> Result<Self, Memory>
+        ensures { IfOk result (λ talk. talk ≡ new_talk) }
+    {
+        let mut talk = Talk {
+            phase: Phase::Commands,
+            name: None,
+            logged_in: false,
+            owed: Owed::new(alloc),
+        };
+        match talk.say(Reply::Ready) {
+            Ok(()) => Ok(talk),
+            Err(Memory) => Err(Memory),
+        }
+    }
+
+    // A talk of which nothing is left.
+    pub(crate) fn ended(alloc: Global) -> Self
+        ensures { result ≡ ended_talk }
+    {
+        Talk {
+            phase: Phase::Over,
+            name: None,
+            logged_in: false,
+            owed: Owed::new(alloc),
+        }
+    }
+
+    // Hears a line without its CRLF, to a server with this login. Where memory runs out, an article may have been kept.
+    pub(crate) fn hear_line(
+        &mut self,
+        alloc: Global,
+        login: &Option<(Bytes, Bytes)>,
+        line: &[u8],
+        articles: &mut List<Article>,
+    ) -> Result<(), Memory>
+        ensures ok { OnOk result ((self.new, articles.new) ≡ heard_line login.now line.now (self.old, articles.old)) }
+        ensures kept { take (length articles.old) articles.new ≡ articles.old }
+    {
+        match mem::replace(&mut self.phase, Phase::Over) {
+            Phase::Commands => self.hear_command(alloc, login, line),
+            Phase::Head(head) => self.hear_head(alloc, head, line),
+            Phase::Body(head, body) => self.hear_body(alloc, head, body, line, articles),
+            Phase::Over => Ok(()),
+        }
+    }
+
+    fn hear_command(
+        &mut self,
+        alloc: Global,
+        login: &Option<(Bytes, Bytes)>,
+        line: &[u8],
+    ) -> Result<(), Memory>
+        ensures { OnOk result (self.new ≡ heard_command login.now line.now self.old) }
+    {
+        self.phase = Phase::Commands;
+        let reply = reply_to(login, self.logged_in, &self.name, line);
+        self.say(reply)?;
+        match reply {
+            Reply::Send => {
+                self.phase = Phase::Head(Lines::new(alloc));
+                Ok(())
+            }
+            Reply::Bye => {
+                self.phase = Phase::Over;
+                Ok(())
+            }
+            Reply::PassNext => {
+                let mut name = Bytes::new(alloc);
+                name.extend(line.split_at(LOGIN_WORD).1)?;
+                self.name = Some(name);
+                Ok(())
+            }
+            Reply::LoggedIn => {
+                self.logged_in = true;
+                Ok(())
+            }
+            _ => Ok(()),
+        }
+    }
+
+    fn hear_head(&mut self, alloc: Global, mut head: Lines, line: &[u8]) -> Result<(), Memory>
+        ensures { OnOk result (self.new ≡ heard_head head line.now self.old) }
+    {
+        if is_dot(line) {
+            self.phase = Phase::Commands;
+            return self.say(Reply::Refused);
+        }
+        if line.is_empty() {
+            self.phase = Phase::Body(head, Lines::new(alloc));
+            return Ok(());
+        }
+        head.push(unstuffed(line))?;
+        self.phase = Phase::Head(head);
+        Ok(())
+    }
+
+    fn hear_body(
+        &mut self,
+        alloc: Global,
+        head: Lines,
+        mut body: Lines,
+        line: &[u8],
+        articles: &mut List<Article>,
+    ) -> Result<(), Memory>
+        ensures ok { OnOk result ((self.new, articles.new) ≡ heard_body head body line.now (self.old, articles.old)) }
+        ensures kept { take (length articles.old) articles.new ≡ articles.old }
+    {
+        if is_dot(line) {
+            let article = Article::from_lines(alloc, head, body)?;
+            return self.judge(article, articles);
+        }
+        body.push(unstuffed(line))?;
+        self.phase = Phase::Body(head, body);
+        Ok(())
+    }
+
+    // Keeps what was posted where it is an article that isn't known, and says so.
+    fn judge(
+        &mut self,
+        article: Option<Article>,
+        articles: &mut List<Article>,
+    ) -> Result<(), Memory>
+        ensures ok { OnOk result ((self.new, articles.new) ≡ judged article (self.old, articles.old)) }
+        ensures kept { take (length articles.old) articles.new ≡ articles.old }
+    {
+        self.phase = Phase::Commands;
+        match article {
+            None => self.say(Reply::Refused),
+            Some(article) => {
+                if Article::is_known(&article.id, articles.as_slice()) {
+                    return self.say(Reply::Refused);
+                }
+                articles.push(article)?;
+                self.say(Reply::Posted)
+            }
+        }
+    }
+
+    // Owes one more reply.
+    #[tactic(auto, unfolding(crate::specs::Answers::reply_text))]
+    fn say(&mut self, reply: Reply) -> Result<(), Memory>
+        ensures { OnOk result (self.new ≡ owing reply self.old) }
+    {
+        self.owed.extend(reply.line())?;
+        self.owed.extend(b"\r\n")
+    }
+}
+
+// Whether a line is the dot that ends a block.
+fn is_dot(line: &[u8]) -> bool
+    ensures { result ≡ is_dot line.now }
+{
+    match line {
+        [byte] => *byte == b'.',
+        _ => false,
+    }
+}
+
+// A line without the dot at its front, if it has one.
+fn unstuffed(line: &[u8]) -> &[u8]
+    ensures { result.now ≡ unstuffed line.now }
+{
+    match line.strip_prefix(b".") {
+        Some(rest) => rest,
+        None => line,
+    }
+}

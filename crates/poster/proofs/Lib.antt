@@ -1,0 +1,15 @@
+pub mod ArticleLaws
+pub mod ArticlesThere
+pub mod BodyLines
+pub mod DeskLemmas
+pub mod HeardLemmas
+pub mod IndexLaws
+pub mod MadeLaws
+pub mod PlanLaws
+pub mod PostingSteps
+mod Rows
+pub mod RunLemmas
+pub mod SaidLemmas
+mod SessionRows
+pub mod SessionSteps
+pub mod ShortText

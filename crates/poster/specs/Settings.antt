@@ -1,0 +1,20 @@
+-- What a post demands of its settings.
+use Rattle.std.specs.Prelude.{◌≤◌}
+use Rattle.article_head.specs.Field.{IsComment, IsFileName, IsFrom, IsNewsgroups}
+use Rattle.article_head.specs.PartId.{IsDomain, IsToken}
+use Rattle.poster.specs.declared.settings.Settings.{Settings}
+
+-- the fields say what they may; the address of the server may be any
+pub record AreSettings (s : Settings) : Type 0 where
+  pub from : IsFrom s.from
+  pub newsgroups : IsNewsgroups s.newsgroups
+  pub token : IsToken s.token
+  pub domain : IsDomain s.domain
+  pub comment : IsComment s.comment
+  pub name : IsFileName s.name
+  pub line_least : 64 ≤ s.line
+  pub line_most : s.line ≤ 997
+  pub part_size_least : 1 ≤ s.part_size
+  pub part_size_most : s.part_size ≤ 16777216
+  pub patience_least : 1 ≤ s.patience
+  pub patience_most : s.patience ≤ 100000

@@ -1,0 +1,11 @@
+//! The worked cases of news servers in memory.
+#![tactic(auto)]
+
+#[cfg(test)]
+mod fixtures;
+#[cfg(test)]
+mod links;
+#[cfg(test)]
+mod logins;
+#[cfg(test)]
+mod posts;

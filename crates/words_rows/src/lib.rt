@@ -1,0 +1,9 @@
+//! The worked cases of the command line's words.
+#![tactic(auto)]
+
+#[cfg(test)]
+mod command_lines;
+#[cfg(test)]
+mod fixtures;
+#[cfg(test)]
+mod posts;
