@@ -1,0 +1,10 @@
+pub mod Answered
+pub mod Drafts
+pub mod Files
+pub mod Finished
+pub mod IndexLaws
+pub mod Keys
+pub mod Lines
+pub mod Once
+pub mod Rows
+pub mod Validity

@@ -1,0 +1,36 @@
+// What becomes of a line that is added to an index.
+ghost use Rattle.std.specs.Prelude.{◌≡◌};
+
+use ub_base::Memory;
+
+/// What a line of an overview brought to the index.
+#[derive(Clone, Copy, Debug, PartialEq, Eq)]
+pub enum Added {
+    /// A segment.
+    New,
+    /// Nothing: its file has a segment of its number already.
+    Repeat,
+    /// Nothing: its subject has no count.
+    NoCount,
+}
+
+/// Why a line was not added to an index.
+#[derive(Clone, Copy, Debug, PartialEq, Eq)]
+pub enum GroupError {
+    /// No memory was left.
+    Memory,
+    /// It would bring the 262,145th segment.
+    Segments,
+    /// It would begin the 10,000th file.
+    Files,
+}
+
+impl From<Memory> for GroupError {
+    ghost use Rattle.overview_index.specs.declared.added.GroupError.TheVariants as errors;
+
+    ghost from_gives = { λ _ error. error ≡ errors.Memory };
+
+    fn from(_: Memory) -> Self {
+        GroupError::Memory
+    }
+}

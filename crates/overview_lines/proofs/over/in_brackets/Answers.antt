@@ -1,0 +1,11 @@
+use Rattle.std.proofs.Common.{[], ◌∷◌, Some}
+use Rattle.std.proofs.lemmas.Bool.Decides.{Decides-eqb}
+use Rattle.std.proofs.lemmas.Slice.Eq.{strip_prefix_is, strip_suffix_is}
+use Rattle.overview_lines.proofs.IdField.{brackets}
+use Rattle.overview_lines.proofs.over.in_brackets.Goals as goal
+
+pub returns : goal.returns
+returns c =
+    brackets c.args.field.now c.in_ok-strip_prefix.field-0.now c.strip_suffix.result
+    (strip_prefix_is Decides-eqb c.args.field.now (60 ∷ []) (Some c.in_ok-strip_prefix.field-0) c.in_ok-strip_prefix.ensures.cases)
+    (strip_suffix_is Decides-eqb c.in_ok-strip_prefix.field-0.now (62 ∷ []) c.strip_suffix.result c.strip_suffix.ensures.cases)

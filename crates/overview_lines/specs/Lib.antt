@@ -1,0 +1,5 @@
+pub mod Count
+pub mod Date
+pub mod DateParts
+pub mod OverLine
+pub mod OverReading
