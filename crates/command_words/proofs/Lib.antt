@@ -1,3 +1,4 @@
+pub mod IndexLemmas
 pub mod KeysLemmas
 pub mod PostLaws
 pub mod PostLemmas

@@ -8,8 +8,8 @@ use Rattle.article_head.specs.PartId.{is_token_byte}
 use Rattle.news_server.proofs.ServerLaws.{server_from_test}
 use Rattle.news_server.proofs.WordTests.{word_from_test}
 use Rattle.command_words.specs.Asked.{paired}
-use Rattle.command_words.specs.Keys.{Key, file_name, is_header_name, is_taken, key_of, line_of, pairs_of, part_size_of, stands_as_key, value_of}
-use Rattle.command_words.specs.Post.{IsPostAllowed, PostAsked, has_all, patience_of, post_asked, post_keys, post_of, post_of_pairs, post_required, text_of}
+use Rattle.command_words.specs.Keys.{Key, file_name, has_all, is_header_name, is_taken, key_of, line_of, pairs_of, part_size_of, patience_of, stands_as_key, text_of, value_of}
+use Rattle.command_words.specs.Post.{IsPostAllowed, PostAsked, post_asked, post_keys, post_of, post_of_pairs, post_required}
 use Rattle.command_words.proofs.KeysLemmas.{stands_with_value, values_taken}
 use Rattle.command_words.proofs.PostLaws.{domain_from_test, newsgroups_from_test, text_from_test}
 
@@ -63,7 +63,7 @@ post_is path server from newsgroups token domain name comment line part_size pat
 -- ---- values that are there
 
 -- the value of a key that is there is one that the key takes
-there : (keys : List Key) (words : List (List ℕ)) (key : List ℕ) (value : Option (List ℕ)) → pairs_of keys 2 [] words ≡ Ok (paired words) → value_of key (paired words) ≡ value → is_some value ≡ true
+pub there : (keys : List Key) (words : List (List ℕ)) (key : List ℕ) (value : Option (List ℕ)) → pairs_of keys 2 [] words ≡ Ok (paired words) → value_of key (paired words) ≡ value → is_some value ≡ true
     → is_taken (key_of keys key) (unwrap_or value []) ≡ true
 there keys words key None are is some = cc
 there keys words key (Some value) are is some = values_taken keys 2 [] (paired words) words are key value is

@@ -1,9 +1,10 @@
 -- Rows of words, computed.
-use Rattle.std.proofs.Common.{◌≡◌, ℕ, true, false, List, [], ◌∷◌, ◌++◌, Ok, Err, None, refl}
+use Rattle.std.proofs.Common.{◌≡◌, ℕ, true, false, List, [], ◌∷◌, ◌++◌, Ok, Err, Some, None, refl}
 use Rattle.std.specs.Prelude.{codes}
 use Rattle.command_words.specs.CommandLine.{words_of}
-use Rattle.command_words.specs.CommandLine.Command.{Check, Decode, Encode, Post}
+use Rattle.command_words.specs.CommandLine.Command.{Check, Decode, Encode, Index, Post}
 use Rattle.command_words.specs.CommandLine.Words.{Asks, Refused}
+use Rattle.command_words.specs.Index.{index_of, is_group, is_range}
 use Rattle.command_words.specs.Keys.{has_leading_zero}
 use Rattle.command_words.specs.Post.{post_of}
 use Rattle.command_words.specs.PostValues.{is_comment, is_domain, is_from, is_newsgroups}
@@ -123,3 +124,41 @@ domain_with_two_dots = refl
 pub asks_to_post_a_file : words_of (codes "post" ∷ codes "--input" ∷ codes "d" ∷ codes "--server" ∷ codes "127.0.0.1:1190" ∷ codes "--from" ∷ codes "me@example.org" ∷ codes "--group" ∷ codes "alt.binaries.test" ∷ codes "--token" ∷ codes "tok" ∷ codes "--domain" ∷ codes "example.org" ∷ [])
     ≡ Asks (Post (record { path = codes "d"; server = codes "127.0.0.1:1190"; from = codes "me@example.org"; newsgroups = codes "alt.binaries.test"; token = codes "tok"; domain = codes "example.org"; name = codes "d"; comment = []; line = 128; part_size = 750000; patience = 1500; login = None }))
 asks_to_post_a_file = refl
+
+-- ---- index
+
+abbrev from_where : List (List ℕ)
+from_where = codes "--server" ∷ codes "h:119" ∷ codes "--group" ∷ codes "a.b" ∷ []
+
+pub indexed_range : index_of (from_where ++ codes "--first" ∷ codes "1" ∷ codes "--last" ∷ codes "9" ∷ [])
+    ≡ Ok (record { server = codes "h:119"; group = codes "a.b"; first = 1; last = 9; patience = 1500; login = None })
+indexed_range = refl
+
+pub asks_to_index_a_range : words_of (codes "index" ∷ codes "--login" ∷ codes "l" ∷ codes "--last" ∷ codes "7" ∷ codes "--first" ∷ codes "7" ∷ codes "--patience" ∷ codes "3" ∷ from_where)
+    ≡ Asks (Index (record { server = codes "h:119"; group = codes "a.b"; first = 7; last = 7; patience = 3; login = Some (codes "l") }))
+asks_to_index_a_range = refl
+
+pub ten_million : is_range 1 10000000 ≡ true
+ten_million = refl
+
+pub one_more : is_range 1 10000001 ≡ false
+one_more = refl
+
+-- the later of the two is refused, unless a word before it is
+pub last_below_first : index_of (codes "--first" ∷ codes "5" ∷ codes "--last" ∷ codes "4" ∷ codes "--bogus" ∷ []) ≡ Err 5
+last_below_first = refl
+
+pub first_above_last : index_of (codes "--last" ∷ codes "4" ∷ codes "--first" ∷ codes "5" ∷ from_where) ≡ Err 5
+first_above_last = refl
+
+pub word_before : index_of (codes "--first" ∷ codes "5" ∷ codes "--bogus" ∷ codes "x" ∷ codes "--last" ∷ codes "4" ∷ []) ≡ Err 4
+word_before = refl
+
+pub bad_first : index_of (codes "--first" ∷ codes "05" ∷ codes "--last" ∷ codes "4" ∷ []) ≡ Err 3
+bad_first = refl
+
+pub no_last : index_of (codes "--first" ∷ codes "5" ∷ from_where) ≡ Err 8
+no_last = refl
+
+pub two_groups : is_group (codes "a,b") ≡ false
+two_groups = refl

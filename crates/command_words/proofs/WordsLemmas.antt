@@ -7,10 +7,11 @@ use Rattle.std.proofs.lemmas.List.{take_all}
 use Rattle.std.proofs.lemmas.Bool.{and_from, and_parts}
 use Rattle.std.proofs.lemmas.Bool.Decides.{nat_tests}
 use Rattle.command_words.specs.Asked.{paired, path_rule, takes_by}
-use Rattle.command_words.specs.CommandLine.{Command, PartAsked, asks_or_lacks, asks_to_post, command_of, encode_asked, encode_keys, encode_of, part_asked, part_of, words_of, words_of_pairs}
+use Rattle.command_words.specs.CommandLine.{Command, PartAsked, asks_or_lacks, asks_to_index, asks_to_post, command_of, encode_asked, encode_keys, encode_of, part_asked, part_of, words_of, words_of_pairs}
 use Rattle.command_words.specs.CommandLine.Words.{Asks, Refused}
 use Rattle.command_words.specs.CommandLine.Command.{Encode}
 use Rattle.command_words.specs.Keys.{Key, file_name, is_header_name, is_named_path, is_path, is_printable, line_of, pairs_of, part_size_of, stands_as_key, value_of}
+use Rattle.command_words.specs.Index.{index_of}
 use Rattle.command_words.specs.Post.{post_of}
 use Rattle.command_words.specs.declared.keys.Rule.{Rule}
 use Rattle.command_words.proofs.KeysLemmas.{stands_with_value, values_taken}
@@ -117,3 +118,10 @@ words_post f (y ∷ xs) x text some is text_is same =
     let first : f y ≡ codes "post" = ap f (sym is) ∙ sym text_is ∙ same in
     let rest : take (length (y ∷ xs) - 1) xs ≡ xs = take_all (length (y ∷ xs) - 1) xs (omega arith) in
     ap (λ w. words_of (w ∷ map f xs)) first ∙ ap (λ l. asks_to_post (post_of (map f l))) (sym rest)
+
+pub words_index : {X : Type 0} (f : X → List ℕ) (xs : List X) (x : X) (text : List ℕ) → 1 ≤ length xs → x ≡ get_or xs 0 x → text ≡ f x → text ≡ codes "index" → words_of (map f xs) ≡ asks_to_index (index_of (map f (take (length xs - 1) (drop 1 xs))))
+words_index f [] x text some is text_is same = absurd (omega arith)
+words_index f (y ∷ xs) x text some is text_is same =
+    let first : f y ≡ codes "index" = ap f (sym is) ∙ sym text_is ∙ same in
+    let rest : take (length (y ∷ xs) - 1) xs ≡ xs = take_all (length (y ∷ xs) - 1) xs (omega arith) in
+    ap (λ w. words_of (w ∷ map f xs)) first ∙ ap (λ l. asks_to_index (index_of (map f l))) (sym rest)

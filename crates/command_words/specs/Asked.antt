@@ -3,13 +3,14 @@ use Rattle.std.specs.Prelude.{◌≡◌, ◌+◌, ◌≤◌, ◌++◌, ◌∷◌
 use Rattle.news_server.specs.Server.{is_server}
 use Rattle.command_words.specs.CommandLine.{BodyAsked, PartAsked, Words}
 use Rattle.command_words.specs.CommandLine.Words.{Asks, Refused}
-use Rattle.command_words.specs.CommandLine.Command.{Check, Decode, Encode, Post}
+use Rattle.command_words.specs.CommandLine.Command.{Check, Decode, Encode, Index, Post}
+use Rattle.command_words.specs.Index.{IsIndexAllowed, index_found, is_first, is_group, is_last}
 use Rattle.command_words.specs.Keys.{Key, form_of, is_header_name, is_named_path, is_path, number_in, pairs_of}
 use Rattle.command_words.specs.Post.{IsPostAllowed, post_found}
 use Rattle.command_words.specs.PostValues.{is_comment, is_domain, is_from, is_newsgroups, is_token}
 use Rattle.command_words.specs.declared.keys.Key.{Key as TableKey}
 use Rattle.command_words.specs.declared.keys.Rule.{Rule}
-use Rattle.command_words.specs.declared.keys.Rule.TheVariants.{Comment, Domain, Form, From, HeaderName, NamedPath, Newsgroups, Number, Path, Server, Token}
+use Rattle.command_words.specs.declared.keys.Rule.TheVariants.{Comment, Domain, First, Form, From, Group, HeaderName, Last, NamedPath, Newsgroups, Number, Path, Server, Token}
 use Rattle.command_words.specs.declared.words.Command.{Command}
 use Rattle.command_words.specs.declared.words.Command.TheVariants as given
 use Rattle.command_words.specs.declared.words.CheckWords.{CheckWords}
@@ -31,6 +32,9 @@ takes_by Newsgroups value = is_newsgroups value
 takes_by Comment value = is_comment value
 takes_by Token value = is_token value
 takes_by Domain value = is_domain value
+takes_by Group value = is_group value
+takes_by (First last) value = is_first last value
+takes_by (Last first) value = is_last first value
 
 -- which paths a command takes, where a name is given or isn't
 abbrev pub path_rule : Bool → Rule
@@ -84,6 +88,7 @@ IsAllowed (given.Encode asked) = IsEncodeAllowed asked
 IsAllowed (given.Decode asked) = Unit {0}
 IsAllowed (given.Check asked) = Unit {0}
 IsAllowed (given.Post asked) = IsPostAllowed (post_found asked)
+IsAllowed (given.Index asked) = IsIndexAllowed (index_found asked)
 
 -- the words behind `encode` ask for what was answered, or the word of the answered number is the first that is refused
 abbrev pub ReadsEncode : Words → Result EncodeWords ℕ → Type 0
@@ -106,4 +111,5 @@ ReadsCommand words (Ok (given.Encode asked)) = words ≡ Asks (Encode (asked_of 
 ReadsCommand words (Ok (given.Decode asked)) = words ≡ Asks (Decode (body_asked asked))
 ReadsCommand words (Ok (given.Check asked)) = words ≡ Asks (Check asked.path.now)
 ReadsCommand words (Ok (given.Post asked)) = words ≡ Asks (Post (post_found asked))
+ReadsCommand words (Ok (given.Index asked)) = words ≡ Asks (Index (index_found asked))
 ReadsCommand words (Err number) = words ≡ Refused number

@@ -4,6 +4,7 @@ use Rattle.std.specs.Str.{bytes_eq}
 use Rattle.std.specs.Option.{option_and_then, option_map, unwrap_or}
 use Rattle.command_words.specs.declared.keys.Form.{Form}
 use Rattle.command_words.specs.declared.keys.Form.TheVariants.{File}
+use Rattle.command_words.specs.Index.{IndexAsked, index_of}
 use Rattle.command_words.specs.Keys.{Key, file_name, form_of, is_header_name, is_named_path, is_path, line_of, number_in, pairs_of, part_size_of, stands_as_key, value_of}
 use Rattle.command_words.specs.Post.{PostAsked, post_of}
 
@@ -21,13 +22,14 @@ pub record BodyAsked : Type 0 where
   pub path : List ℕ
   pub form : Form
 
--- what the words ask for: the body of a part of a file, the bytes of a saved body, what the NZB text at a path lists, or that a
--- file is posted
+-- what the words ask for: the body of a part of a file, the bytes of a saved body, what the NZB text at a path lists, that a file
+-- is posted, or that articles of a newsgroup are indexed
 pub data Command : Type 0 where
   Encode : (asked : PartAsked) → Command
   Decode : (asked : BodyAsked) → Command
   Check : (path : List ℕ) → Command
   Post : (asked : PostAsked) → Command
+  Index : (asked : IndexAsked) → Command
 
 -- what the words ask for, or the number of the first word that is refused, counted from 1
 pub data Words : Type 0 where
@@ -113,6 +115,12 @@ abbrev pub asks_to_post : Result PostAsked ℕ → Words
 asks_to_post (Ok asked) = Asks (Post asked)
 asks_to_post (Err number) = Refused number
 
+-- ---- index
+
+abbrev pub asks_to_index : Result IndexAsked ℕ → Words
+asks_to_index (Ok asked) = Asks (Index asked)
+asks_to_index (Err number) = Refused number
+
 -- ---- all words
 
 abbrev pub words_of : List (List ℕ) → Words
@@ -122,6 +130,7 @@ words_of (command ∷ words) =
     else if bytes_eq command (codes "decode") then decode_of words
     else if bytes_eq command (codes "check") then check_of words
     else if bytes_eq command (codes "post") then asks_to_post (post_of words)
+    else if bytes_eq command (codes "index") then asks_to_index (index_of words)
     else Refused 1
 
 -- the words are refused

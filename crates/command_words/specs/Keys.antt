@@ -2,6 +2,7 @@
 use Rattle.std.specs.Prelude.{ℕ, ◌+◌, ◌-◌, ◌==◌, ◌&&◌, ◌||◌, Bool, false, not, nat_le, List, [], ◌∷◌, ◌++◌, length, get_or, if◌then◌else◌, Result, Ok, Err, Option, Some, None, is_some, codes}
 use Rattle.std.specs.Str.{bytes_eq}
 use Rattle.std.specs.List.{list_all}
+use Rattle.std.specs.Option.{unwrap_or}
 use Rattle.ub_base.specs.Numbers.{decimal_of, within}
 use Rattle.command_words.specs.declared.keys.Form.{Form}
 use Rattle.command_words.specs.declared.keys.Form.TheVariants.{File, Wire}
@@ -51,6 +52,10 @@ line_of = number_in 64 997
 abbrev pub part_size_of : List ℕ → Option ℕ
 part_size_of = number_in 1 16777216
 
+-- after how many receives that got nothing a server may be given up
+abbrev pub patience_of : List ℕ → Option ℕ
+patience_of = number_in 1 100000
+
 -- how a body was saved: as the lines of a file, or as a reply off the wire
 abbrev pub form_of : List ℕ → Option Form
 form_of value = if bytes_eq value (codes "file") then Some File else if bytes_eq value (codes "wire") then Some Wire else None
@@ -84,6 +89,14 @@ stands_as_key key (word ∷ value ∷ words) = bytes_eq key word || stands_as_ke
 abbrev pub value_of : List ℕ → List (List ℕ × List ℕ) → Option (List ℕ)
 value_of word [] = None
 value_of word (pair ∷ pairs) = if bytes_eq word pair.0 then Some pair.1 else value_of word pairs
+
+-- all these keys have a value
+abbrev pub has_all : List (List ℕ) → List (List ℕ × List ℕ) → Bool
+has_all keys pairs = list_all (λ key. is_some (value_of key pairs)) keys
+
+-- the value of a key, or nothing where it has none
+abbrev pub text_of : List ℕ → List (List ℕ × List ℕ) → List ℕ
+text_of key pairs = unwrap_or (value_of key pairs) []
 
 -- whether a word can be the next key: the command knows it, and no pair so far has it
 abbrev pub is_next_key : List Key → List (List ℕ × List ℕ) → List ℕ → Bool

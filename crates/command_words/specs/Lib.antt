@@ -1,5 +1,6 @@
 pub mod Asked
 pub mod CommandLine
+pub mod Index
 pub mod Keys
 pub mod Post
 pub mod PostValues

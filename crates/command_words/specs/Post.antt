@@ -1,11 +1,10 @@
 -- The words of the command `post`.
 use Rattle.std.specs.Prelude.{◌≡◌, ◌≤◌, ℕ, ◌+◌, Bool, if◌then◌else◌, List, [], ◌∷◌, length, Result, Ok, Err, Option, is_some, codes}
-use Rattle.std.specs.List.{list_all}
 use Rattle.std.specs.Option.{option_and_then, option_copied, unwrap_or}
 use Rattle.article_head.specs.Field.{IsComment, IsFileName, IsFrom, IsNewsgroups}
 use Rattle.article_head.specs.PartId.{IsDomain, IsToken}
 use Rattle.news_server.specs.Server.{IsServer, is_server}
-use Rattle.command_words.specs.Keys.{Key, file_name, is_header_name, is_named_path, is_path, line_of, number_in, pairs_of, part_size_of, stands_as_key, value_of}
+use Rattle.command_words.specs.Keys.{Key, file_name, has_all, is_header_name, is_named_path, is_path, line_of, pairs_of, part_size_of, patience_of, stands_as_key, text_of, value_of}
 use Rattle.command_words.specs.PostValues.{is_comment, is_domain, is_from, is_newsgroups, is_token}
 use Rattle.command_words.specs.declared.post.PostWords.{PostWords}
 
@@ -26,9 +25,6 @@ pub record PostAsked : Type 0 where
   pub patience : ℕ
   pub login : Option (List ℕ)
 
-abbrev pub patience_of : List ℕ → Option ℕ
-patience_of = number_in 1 100000
-
 -- The keys of `post`. Where no `--name` is given, the last part of the path is the name, and has to be able to.
 abbrev pub post_keys : Bool → List Key
 post_keys is_named =
@@ -48,13 +44,6 @@ post_keys is_named =
 -- the keys that have to be there
 abbrev pub post_required : List (List ℕ)
 post_required = codes "--input" ∷ codes "--server" ∷ codes "--from" ∷ codes "--group" ∷ codes "--token" ∷ codes "--domain" ∷ []
-
-abbrev pub has_all : List (List ℕ) → List (List ℕ × List ℕ) → Bool
-has_all keys pairs = list_all (λ key. is_some (value_of key pairs)) keys
-
--- the value of a key, or nothing where it has none
-abbrev pub text_of : List ℕ → List (List ℕ × List ℕ) → List ℕ
-text_of key pairs = unwrap_or (value_of key pairs) []
 
 -- what pairs ask for that have all that has to be there
 abbrev pub post_asked : List (List ℕ × List ℕ) → PostAsked

@@ -2,12 +2,14 @@
 ghost use Rattle.std.specs.Prelude.{◌≡◌, ◌≤◌, ◌<◌, IfSome, length, map, string_bytes};
 ghost use Rattle.std.specs.Option.{option_and_then, option_copied, option_map, unwrap_or};
 ghost use Rattle.std.specs.List.{list_all};
-ghost use Rattle.command_words.specs.Keys.{file_name as file_name_of, form_of, has_leading_zero, is_header_name, is_printable, key_of, number_in, stands_as_key, value_of};
+ghost use Rattle.command_words.specs.Keys.{file_name as file_name_of, form_of, has_all, has_leading_zero, is_header_name, is_printable, key_of, number_in, stands_as_key, text_of, value_of};
 ghost use Rattle.command_words.specs.declared.keys.Form.TheVariants.{File};
 ghost use Rattle.command_words.specs.Asked.{key_model, paired, takes_by, ChecksPair, ChecksPairs};
 
+use crate::index::{is_first, is_last};
 use article_head::{is_comment, is_domain, is_from, is_newsgroups, is_token};
 use news_server::is_server;
+use nntp_lines::GroupName;
 use ub_base::read_dec;
 
 /// Which values a key takes.
@@ -20,7 +22,7 @@ pub(crate) enum Rule {
     /// 1 to 255 printable characters of ASCII, with no space at either end.
     HeaderName,
     /// A number in decimal digits without leading zeros, within these limits.
-    Number { least: u32, most: u32 },
+    Number { least: u64, most: u64 },
     /// How a body was saved: `file` or `wire`.
     Form,
     /// Where a news server is: `HOST:PORT`.
@@ -35,6 +37,12 @@ pub(crate) enum Rule {
     Token,
     /// The domain in message-ids.
     Domain,
+    /// The name of one newsgroup.
+    Group,
+    /// The number of the first article, by that of the last one where it stands before it.
+    First { last: Option<u64> },
+    /// The number of the last article, by that of the first one where it stands before it.
+    Last { first: Option<u64> },
 }
 
 /// How a body was saved.
@@ -122,6 +130,9 @@ fn takes(rule: Rule, value: &str) -> bool
         Rule::Comment => is_comment(bytes),
         Rule::Token => is_token(bytes),
         Rule::Domain => is_domain(bytes),
+        Rule::Group => GroupName::new(bytes).is_some(),
+        Rule::First { last } => is_first(last, value),
+        Rule::Last { first } => is_last(first, value),
     }
 }
 
@@ -139,8 +150,37 @@ pub(crate) fn value_in<'a>(words: &'a [String], key: &str) -> Option<&'a str>
     None
 }
 
+/// Whether each of these keys has a value in the pairs that these words are.
+pub(crate) fn has_all(keys: &[&str], words: &[String]) -> bool
+    ensures { result ≡ has_all (map (λ key. key.now) keys.now) (paired (map string_bytes words.now)) }
+{
+    for key in keys {
+        if value_in(words, key).is_none() {
+            return false;
+        }
+    }
+    true
+}
+
+/// The value of a key in the pairs that these words are, or an empty text where it has none.
+pub(crate) fn text_of<'a>(words: &'a [String], key: &str) -> &'a str
+    ensures { result.now ≡ text_of key.now (paired (map string_bytes words.now)) }
+{
+    match value_in(words, key) {
+        Some(value) => value,
+        None => "",
+    }
+}
+
+/// The bytes of that value.
+pub(crate) fn bytes_of<'a>(words: &'a [String], key: &str) -> &'a [u8]
+    ensures { result.now ≡ text_of key.now (paired (map string_bytes words.now)) }
+{
+    text_of(words, key).as_bytes()
+}
+
 /// The number that is the value of a key in the pairs that these words are, or the default where it has none in the limits.
-pub(crate) fn number_or(words: &[String], key: &str, least: u32, most: u32, default: u32) -> u32
+pub(crate) fn number_or(words: &[String], key: &str, least: u64, most: u64, default: u64) -> u64
     requires least { least ≤ default }
     requires most { default ≤ most }
     ensures least { least ≤ result }
@@ -156,8 +196,8 @@ pub(crate) fn number_or(words: &[String], key: &str, least: u32, most: u32, defa
     }
 }
 
-// The number that a value is, within limits. No zero stands in front of other digits.
-fn number_in(value: &str, least: u32, most: u32) -> Option<u32>
+/// The number that a value is, within limits. No zero stands in front of other digits.
+pub(crate) fn number_in(value: &str, least: u64, most: u64) -> Option<u64>
     ensures value { result ≡ number_in least most value.now }
     ensures least { IfSome result (λ number. least ≤ number) }
     ensures most { IfSome result (λ number. number ≤ most) }
@@ -165,8 +205,8 @@ fn number_in(value: &str, least: u32, most: u32) -> Option<u32>
     if has_leading_zero(value.as_bytes()) {
         return None;
     }
-    match read_dec(value.as_bytes(), u64::from(most)) {
-        Some(number) if number >= u64::from(least) => Some(number as u32),
+    match read_dec(value.as_bytes(), most) {
+        Some(number) if number >= least => Some(number),
         _ => None,
     }
 }

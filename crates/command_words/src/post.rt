@@ -1,19 +1,18 @@
 // The words of the command `post`.
 ghost use Rattle.std.specs.Prelude.{◌≡◌, map, string_bytes, IfOk};
-ghost use Rattle.command_words.specs.Asked.{key_model, paired};
-ghost use Rattle.command_words.specs.Post.{IsPostAllowed, ReadsPost, has_all, post_found, post_keys, post_of, text_of};
+ghost use Rattle.command_words.specs.Asked.{key_model};
+ghost use Rattle.command_words.specs.Post.{IsPostAllowed, ReadsPost, post_found, post_keys, post_of};
 
-use crate::keys::{Key, Rule, check_pairs, has_key, number_or, value_in};
-use crate::words::{LEAST_LINE, MOST_LINE, MOST_PART_SIZE, header_name, path_rule};
+use crate::keys::{
+    Key, Rule, bytes_of, check_pairs, has_all, has_key, number_or, text_of, value_in,
+};
+use crate::words::{
+    LEAST_LINE, MOST_LINE, MOST_PART_SIZE, MOST_PATIENCE, PATIENCE, header_name, path_rule,
+};
 use yenc_lines::Name;
 
 // How many bytes a part has where the words don't say it.
-const PART_SIZE: u32 = 750_000;
-
-// How many receives may get nothing before a server is given up.
-const MOST_PATIENCE: u32 = 100_000;
-
-const PATIENCE: u32 = 1500;
+const PART_SIZE: u64 = 750_000;
 
 const REQUIRED: [&str; 6] = [
     "--input", "--server", "--from", "--group", "--token", "--domain",
@@ -138,37 +137,8 @@ pub fn read_post(words: &[String]) -> Result<PostWords<'_>, u64>
         name: header_name(words, path),
         comment: bytes_of(words, "--comment"),
         line: number_or(words, "--line", LEAST_LINE, MOST_LINE, 128) as u16,
-        part_size: number_or(words, "--part-size", 1, MOST_PART_SIZE, PART_SIZE),
-        patience: number_or(words, "--patience", 1, MOST_PATIENCE, PATIENCE),
+        part_size: number_or(words, "--part-size", 1, MOST_PART_SIZE, PART_SIZE) as u32,
+        patience: number_or(words, "--patience", 1, MOST_PATIENCE, PATIENCE) as u32,
         login: value_in(words, "--login"),
     })
-}
-
-// Whether each of these keys has a value.
-fn has_all(keys: &[&str], words: &[String]) -> bool
-    ensures { result ≡ has_all (map (λ key. key.now) keys.now) (paired (map string_bytes words.now)) }
-{
-    for key in keys {
-        if value_in(words, key).is_none() {
-            return false;
-        }
-    }
-    true
-}
-
-// The bytes of the value of a key, or none where it has none.
-fn bytes_of<'a>(words: &'a [String], key: &str) -> &'a [u8]
-    ensures { result.now ≡ text_of key.now (paired (map string_bytes words.now)) }
-{
-    text_of(words, key).as_bytes()
-}
-
-// The value of a key, or an empty text where it has none.
-fn text_of<'a>(words: &'a [String], key: &str) -> &'a str
-    ensures { result.now ≡ text_of key.now (paired (map string_bytes words.now)) }
-{
-    match value_in(words, key) {
-        Some(value) => value,
-        None => "",
-    }
 }

@@ -5,6 +5,7 @@ ghost use Rattle.command_words.specs.CommandLine.{check_of, decode_of, encode_ke
 ghost use Rattle.command_words.specs.Keys.{file_name as file_name_of, is_header_name, value_of};
 ghost use Rattle.command_words.specs.Asked.{IsAllowed, IsEncodeAllowed, ReadsCheck, ReadsCommand, ReadsDecode, ReadsEncode, key_model, paired, path_rule};
 
+use crate::index::{IndexWords, read_index};
 use crate::keys::{
     Form, Key, Rule, check_pairs, file_name, form_or_file, has_key, number_or, value_in,
 };
@@ -12,12 +13,20 @@ use crate::post::{PostWords, read_post};
 use yenc_lines::Name;
 
 // How many characters a data line has before it is full.
-pub(crate) const LEAST_LINE: u32 = 64;
+pub(crate) const LEAST_LINE: u64 = 64;
 
-pub(crate) const MOST_LINE: u32 = 997;
+pub(crate) const MOST_LINE: u64 = 997;
 
 // How many bytes a part has.
-pub(crate) const MOST_PART_SIZE: u32 = 16_777_216;
+pub(crate) const MOST_PART_SIZE: u64 = 16_777_216;
+
+// The greatest number of a part.
+const MOST_PART: u64 = 4_294_967_295;
+
+// How many receives may get nothing before a server is given up.
+pub(crate) const MOST_PATIENCE: u64 = 100_000;
+
+pub(crate) const PATIENCE: u64 = 1500;
 
 /// What the words ask for.
 #[derive(Drop)]
@@ -30,6 +39,8 @@ pub enum Command<'a> {
     Check(CheckWords<'a>),
     /// That a file is posted.
     Post(PostWords<'a>),
+    /// That articles of a newsgroup are indexed.
+    Index(IndexWords<'a>),
 }
 
 /// What `encode` is asked for.
@@ -86,6 +97,10 @@ pub fn read_words(words: &[String]) -> Result<Command<'_>, u64>
         },
         "post" => match read_post(rest) {
             Ok(asked) => Ok(Command::Post(asked)),
+            Err(number) => Err(number),
+        },
+        "index" => match read_index(rest) {
+            Ok(asked) => Ok(Command::Index(asked)),
             Err(number) => Err(number),
         },
         _ => Err(1),
@@ -145,7 +160,7 @@ fn encode_keys(is_named: bool) -> [Key; 5]
             word: "--part",
             rule: Rule::Number {
                 least: 1,
-                most: u32::MAX,
+                most: MOST_PART,
             },
         },
     ]
@@ -167,8 +182,8 @@ fn read_encode(words: &[String]) -> Result<EncodeWords<'_>, u64>
         path,
         name: header_name(words, path),
         line: number_or(words, "--line", LEAST_LINE, MOST_LINE, 128) as u16,
-        part_size: number_or(words, "--part-size", 1, MOST_PART_SIZE, MOST_PART_SIZE),
-        part: number_or(words, "--part", 1, u32::MAX, 1),
+        part_size: number_or(words, "--part-size", 1, MOST_PART_SIZE, MOST_PART_SIZE) as u32,
+        part: number_or(words, "--part", 1, MOST_PART, 1) as u32,
     })
 }
 

@@ -91,13 +91,14 @@ fn a_newsgroup_is_chosen_with_its_numbers(rt: HostRuntime) -> Result<(), Fail> {
         low: 7,
         high: 9,
     };
-    let rows: [(&[u8], GroupAnswer); 6] = [
+    let rows: [(&[u8], GroupAnswer); 7] = [
         (b"211 3 7 9 a.b\r\n", GroupAnswer::Chosen(group)),
         (b"211 3 7 a.b\r\n", GroupAnswer::Over(Why::NoReply)),
         (b"411 none\r\n", GroupAnswer::Code(411)),
         (b"500 what\r\n", GroupAnswer::Code(500)),
         (b"340 no\r\n", GroupAnswer::Over(Why::Odd(340))),
-        (b"211 3 7 9 a.b\r\nx", GroupAnswer::Unasked(211)),
+        (b"211 3 7 9 a.b\r\nx", GroupAnswer::ChosenUnasked(group)),
+        (b"411 none\r\nx", GroupAnswer::Unasked(411)),
     ];
     for (reply, wanted) in rows {
         assert_eq!(rt; choose(rt.alloc(), reply)?, wanted);

@@ -6,6 +6,7 @@ pub mod Greatest
 pub mod ReaderSteps
 pub mod Feeding
 pub mod Telling
+pub mod HeardCount
 pub mod Hearings
 pub mod Turns
 pub mod Standing

@@ -138,10 +138,12 @@ hears_block start now after dialog messages kind replies kept block (answer.Over
 pub hears_group : (start : Start) (now after : Option (List LinkEvent)) (dialog : Dialog) (messages : List Message) (replies : List Reply) (result : GroupAnswer) → Awaits start now dialog messages Group replies → IsGroupAnswered now after dialog.link dialog.patience result → IsGroupHeard start after dialog messages replies result
 hears_group start now after dialog messages replies (group_answer.Chosen group) a h =
     (h.0, h.1, hears_on start now after dialog messages Group replies (line_reply 211 h.0) a h.2)
+hears_group start now after dialog messages replies (group_answer.ChosenUnasked group) a h =
+    (h.0, h.1, hears_last start now after dialog messages Group replies (line_reply 211 h.0 ∷ []) why.Unasked a h.2)
 hears_group start now after dialog messages replies (group_answer.Code code) a h =
     (h.0, h.1, (h.2.0, hears_on start now after dialog messages Group replies (line_reply code h.2.0) a h.2.1))
 hears_group start now after dialog messages replies (group_answer.Unasked code) a h =
-    (h.0, (h.1.0, hears_last start now after dialog messages Group replies (line_reply code h.1.0 ∷ []) why.Unasked a h.1.1))
+    (h.0, h.1, (h.2.0, hears_last start now after dialog messages Group replies (line_reply code h.2.0 ∷ []) why.Unasked a h.2.1))
 hears_group start now after dialog messages replies (group_answer.Over reason) a h =
     subst (λ (rs : List Reply). Ends start after dialog.patience messages (bytes_said start messages replies) reason rs) (append-nil replies)
     (hears_last start now after dialog messages Group replies [] reason a h)

@@ -24,15 +24,18 @@ IsAnswered before after link patience kind (answer.Over reason) = HeardTo before
 abbrev pub IsGroupAnswered : Option (List LinkEvent) → Option (List LinkEvent) → ℕ → ℕ → GroupAnswer → Type 0
 IsGroupAnswered before after link patience (group_answer.Chosen group) =
     (line : List ℕ) × (group_of line ≡ Some group) × HeardTo before after link patience Group (line_reply 211 line ∷ []) None
+IsGroupAnswered before after link patience (group_answer.ChosenUnasked group) =
+    (line : List ℕ) × (group_of line ≡ Some group) × HeardTo before after link patience Group (line_reply 211 line ∷ []) (Some why.Unasked)
 IsGroupAnswered before after link patience (group_answer.Code code) =
     (is_meant Group code ≡ true) × (code ≢ 211) × ((line : List ℕ) × HeardTo before after link patience Group (line_reply code line ∷ []) None)
 IsGroupAnswered before after link patience (group_answer.Unasked code) =
-    (is_meant Group code ≡ true) × ((line : List ℕ) × HeardTo before after link patience Group (line_reply code line ∷ []) (Some why.Unasked))
+    (is_meant Group code ≡ true) × (code ≢ 211) × ((line : List ℕ) × HeardTo before after link patience Group (line_reply code line ∷ []) (Some why.Unasked))
 IsGroupAnswered before after link patience (group_answer.Over reason) = HeardTo before after link patience Group [] (Some reason)
 
 -- the link stays as it is where the reply was heard and nothing behind it
 abbrev pub GroupKeepsLive : List Bool → List Bool → GroupAnswer → Type 0
 GroupKeepsLive before now (group_answer.Chosen group) = now ≡ before
+GroupKeepsLive before now (group_answer.ChosenUnasked group) = ⊤
 GroupKeepsLive before now (group_answer.Code code) = now ≡ before
 GroupKeepsLive before now (group_answer.Unasked code) = ⊤
 GroupKeepsLive before now (group_answer.Over reason) = ⊤

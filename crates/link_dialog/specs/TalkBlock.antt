@@ -27,14 +27,18 @@ IsBlockHeard start now dialog messages kind replies kept block (answer.Unasked c
 IsBlockHeard start now dialog messages kind replies kept block (answer.Over reason) =
     Ends start now dialog.patience messages (bytes_said start messages replies) reason replies
 
--- The newsgroup is chosen, or the reply has another code, or bytes came behind it, or the link is over without it.
+-- The newsgroup is chosen, or the reply has another code, in both cases with bytes behind it or not, or the link is over without
+-- it.
 abbrev pub IsGroupHeard : Start → Option (List LinkEvent) → Dialog → List Message → List Reply → GroupAnswer → Type 0
 IsGroupHeard start now dialog messages replies (group_answer.Chosen group) =
     (line : List ℕ) × (group_of line ≡ Some group) × Rests start now dialog messages (replies ++ line_reply 211 line ∷ [])
+IsGroupHeard start now dialog messages replies (group_answer.ChosenUnasked group) =
+    (line : List ℕ) × (group_of line ≡ Some group)
+    × Ends start now dialog.patience messages (bytes_said start messages replies) why.Unasked (replies ++ line_reply 211 line ∷ [])
 IsGroupHeard start now dialog messages replies (group_answer.Code code) =
     (is_meant Group code ≡ true) × (code ≢ 211) × ((line : List ℕ) × Rests start now dialog messages (replies ++ line_reply code line ∷ []))
 IsGroupHeard start now dialog messages replies (group_answer.Unasked code) =
-    (is_meant Group code ≡ true)
+    (is_meant Group code ≡ true) × (code ≢ 211)
     × ((line : List ℕ) × Ends start now dialog.patience messages (bytes_said start messages replies) why.Unasked (replies ++ line_reply code line ∷ []))
 IsGroupHeard start now dialog messages replies (group_answer.Over reason) =
     Ends start now dialog.patience messages (bytes_said start messages replies) reason replies

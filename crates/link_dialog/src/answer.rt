@@ -40,9 +40,12 @@ impl BlockAnswer {
 pub enum GroupAnswer {
     /// The newsgroup is chosen, and this is said of it.
     Chosen(GroupReply),
+    /// The newsgroup is chosen, and this is said of it, but bytes came behind the reply, which nobody asked for: the link is
+    /// over.
+    ChosenUnasked(GroupReply),
     /// The reply has this other code, and the link goes on.
     Code(u16),
-    /// The reply has this code, but bytes came behind it, which nobody asked for: the link is over.
+    /// The reply has this other code, but bytes came behind it, which nobody asked for: the link is over.
     Unasked(u16),
     /// The link is over, and the reply wasn't heard whole.
     Over(Why),

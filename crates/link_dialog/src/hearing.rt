@@ -102,14 +102,19 @@ pub(crate) fn hear_group_reply<L: Links>(links: &mut L, link: u32, patience: u32
         Ok(end) => end,
         Err(why) => return GroupAnswer::Over(why),
     };
-    if end.used != end.len {
-        return GroupAnswer::Unasked(end.code);
-    }
     if end.code != 211 {
+        if end.used != end.len {
+            return GroupAnswer::Unasked(end.code);
+        }
         return GroupAnswer::Code(end.code);
     }
     match read_group(reader.line()) {
-        Some(group) => GroupAnswer::Chosen(group),
+        Some(group) => {
+            if end.used != end.len {
+                return GroupAnswer::ChosenUnasked(group);
+            }
+            GroupAnswer::Chosen(group)
+        }
         None => unreachable!(),
     }
 }

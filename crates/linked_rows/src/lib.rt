@@ -4,6 +4,12 @@
 #[cfg(test)]
 mod fixtures;
 #[cfg(test)]
+mod index;
+#[cfg(test)]
+mod index_faults;
+#[cfg(test)]
+mod index_fixtures;
+#[cfg(test)]
 mod post;
 #[cfg(test)]
 mod post_faults;

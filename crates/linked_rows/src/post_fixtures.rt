@@ -1,4 +1,6 @@
 // What the tests of `post` hand in, and what they await.
+ghost use Rattle.std.specs.Prelude.{◌≤◌, All, IfOk};
+
 use crate::fixtures::{Ran, bytes_of, run_linked, words_of};
 use news_spool::{Spool, SpoolPlan, SpoolServer};
 use std::alloc::Global;
@@ -102,10 +104,21 @@ pub(crate) fn spool_of(alloc: Global, login: Option<(&[u8], &[u8])>) -> Result<S
         servers,
         links: List::new(alloc),
         pieces: List::new(alloc),
-        date: Bytes::new(alloc),
+        date: articles_date(alloc)?,
     };
     match Spool::new(alloc, plan) {
         Ok(spool) => Ok(spool),
+        Err(_) => Err("no memory".into()),
+    }
+}
+
+// The date that the server gives its articles.
+fn articles_date(alloc: Global) -> Result<Bytes, Fail>
+    ensures { IfOk result (λ date. All (λ byte. 32 ≤ byte) date) }
+{
+    let mut date = Bytes::new(alloc);
+    match date.extend(b"Thu, 01 Jan 1970 02:00:10 +0200 (EET)") {
+        Ok(()) => Ok(date),
         Err(_) => Err("no memory".into()),
     }
 }

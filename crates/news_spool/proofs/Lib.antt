@@ -1,5 +1,13 @@
+pub mod GroupCounts
 pub mod Histories
 pub mod LinkLaws
+pub mod OctetCounts
+pub mod OneLine
+pub mod OverviewLines
 pub mod Places
+pub mod RangeLaws
 mod Rows
+pub mod SaidNumbers
 pub mod Served
+pub mod ShownArticles
+pub mod SpacedText

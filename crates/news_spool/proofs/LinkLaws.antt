@@ -22,14 +22,15 @@ pub login_is : (servers : List SpoolServer) (k : ℕ) (server : SpoolServer) →
 login_is servers k server inside is = rw (got_at servers k server inside is) refl
 
 -- bytes came on one link
-pub sent_is : (plan : SpoolPlan) (links : List LinkState) (articles : List Article) (k : ℕ) (bytes : List ℕ) (state : LinkState)
+pub sent_is : (plan : SpoolPlan) (links : List LinkState) (articles : List Article) (k : ℕ) (date bytes : List ℕ) (state : LinkState)
     (login : Option (List ℕ × List ℕ)) (after : LinkState) (kept : List Article) → k < length links → state ≡ get_or links k state
-    → login ≡ login_of plan.servers state.server → (after, kept) ≡ heard_bytes login bytes (state, articles)
+    → login ≡ login_of plan.servers state.server → date ≡ plan.date → (after, kept) ≡ heard_bytes login date bytes (state, articles)
     → (set links k after, kept) ≡ after_sent plan k bytes (links, articles)
-sent_is plan links articles k bytes state login after kept inside is own heard =
+sent_is plan links articles k date bytes state login after kept inside is own day heard =
     ap (λ (x : LinkState × List Article). (set links k x.0, x.1))
-    (heard ∙ ap (λ (login : Option (List ℕ × List ℕ)). heard_bytes login bytes (state, articles)) own)
-    ∙ ap (λ (x : LinkState). (set links k (heard_bytes (login_of plan.servers x.server) bytes (x, articles)).0, (heard_bytes (login_of plan.servers x.server) bytes (x, articles)).1))
+    (heard ∙ ap (λ (login : Option (List ℕ × List ℕ)). heard_bytes login date bytes (state, articles)) own
+    ∙ ap (λ (date : List ℕ). heard_bytes (login_of plan.servers state.server) date bytes (state, articles)) day)
+    ∙ ap (λ (x : LinkState). (set links k (heard_bytes (login_of plan.servers x.server) plan.date bytes (x, articles)).0, (heard_bytes (login_of plan.servers x.server) plan.date bytes (x, articles)).1))
     (sym (state_is links k state inside is))
 
 -- what a link keeps once it has ended doesn't know what came before

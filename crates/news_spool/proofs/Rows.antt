@@ -1,56 +1,91 @@
 -- The definitions of replies, articles and links, computed on cases that were written out by hand.
-use Rattle.std.proofs.Common.{◌≡◌, ℕ, ◌++◌, false, List, [], ◌∷◌, Some, None, length, refl}
+use Rattle.std.proofs.Common.{◌≡◌, ℕ, ◌++◌, true, false, List, [], ◌∷◌, Some, None, length, refl}
+use Rattle.std.specs.Fmt.{digits}
 use Rattle.std.specs.Prelude.{codes, Option}
 use Rattle.news_spool.specs.declared.article.Article.{Article}
 use Rattle.news_spool.specs.declared.link_state.Due.TheVariants as due
 use Rattle.news_spool.specs.declared.link_state.LinkState.{LinkState}
+use Rattle.news_spool.specs.declared.reply.Answer.TheVariants.{Group, Line, Overview}
 use Rattle.news_spool.specs.declared.reply.Reply.TheVariants.{Send, LoginFirst, PassNext, LoggedIn, NameFirst, WrongLogin, NoLogin, Bye, What}
-use Rattle.news_spool.specs.Answers.{reply_text, reply_to}
+use Rattle.news_spool.specs.Answers.{answer_to, reply_text}
 use Rattle.news_spool.specs.Articles.{article_of}
 use Rattle.news_spool.specs.Fields.{field_of, id_of, newsgroups_of}
+use Rattle.news_spool.specs.Groups.{group_line, group_reply, in_group}
 use Rattle.news_spool.specs.LinkState.{due_on, given, heard_bytes, new_link}
+use Rattle.news_spool.specs.Overview.{over_reply, overview_of}
 use Rattle.news_spool.specs.Pieces.{next_turn, piece_at}
+use Rattle.news_spool.specs.Ranges.{range_of}
 
 -- ---- commands
 
 abbrev own : Option (List ℕ × List ℕ)
 own = Some (codes "me", codes "secret")
 
-pub posts : reply_to None false None (codes "POST") ≡ Send
-unfolding reply_to
+pub posts : answer_to None false None (codes "POST") ≡ Line Send
+unfolding answer_to
 posts = refl
 
-pub login_comes_first : reply_to own false None (codes "POST") ≡ LoginFirst
-unfolding reply_to
+pub login_comes_first : answer_to own false None (codes "POST") ≡ Line LoginFirst
+unfolding answer_to
 login_comes_first = refl
 
-pub quits_without_login : reply_to own false None (codes "QUIT") ≡ Bye
-unfolding reply_to
+pub quits_without_login : answer_to own false None (codes "QUIT") ≡ Line Bye
+unfolding answer_to
 quits_without_login = refl
 
-pub name_is_taken : reply_to own false None (codes "AUTHINFO USER you") ≡ PassNext
-unfolding reply_to
+pub name_is_taken : answer_to own false None (codes "AUTHINFO USER you") ≡ Line PassNext
+unfolding answer_to
 name_is_taken = refl
 
-pub password_is_right : reply_to own false (Some (codes "me")) (codes "AUTHINFO PASS secret") ≡ LoggedIn
-unfolding reply_to
+pub password_is_right : answer_to own false (Some (codes "me")) (codes "AUTHINFO PASS secret") ≡ Line LoggedIn
+unfolding answer_to
 password_is_right = refl
 
-pub name_is_wrong : reply_to own false (Some (codes "you")) (codes "AUTHINFO PASS secret") ≡ WrongLogin
-unfolding reply_to
+pub name_is_wrong : answer_to own false (Some (codes "you")) (codes "AUTHINFO PASS secret") ≡ Line WrongLogin
+unfolding answer_to
 name_is_wrong = refl
 
-pub name_is_missing : reply_to own false None (codes "AUTHINFO PASS secret") ≡ NameFirst
-unfolding reply_to
+pub name_is_missing : answer_to own false None (codes "AUTHINFO PASS secret") ≡ Line NameFirst
+unfolding answer_to
 name_is_missing = refl
 
-pub no_login : reply_to None false None (codes "AUTHINFO USER me") ≡ NoLogin
-unfolding reply_to
+pub no_login : answer_to None false None (codes "AUTHINFO USER me") ≡ Line NoLogin
+unfolding answer_to
 no_login = refl
 
-pub other_word : reply_to None false None (codes "AUTHINFOX") ≡ What
-unfolding reply_to
+pub other_word : answer_to None false None (codes "AUTHINFOX") ≡ Line What
+unfolding answer_to
 other_word = refl
+
+pub group_is_asked : answer_to None false None (codes "GROUP a") ≡ Group
+unfolding answer_to
+group_is_asked = refl
+
+pub overview_is_asked : answer_to None false None (codes "OVER 1-20") ≡ Overview (record { first = 1; last = 20 })
+unfolding answer_to range_of
+overview_is_asked = refl
+
+pub login_before_a_group : answer_to own false None (codes "GROUP a") ≡ Line LoginFirst
+unfolding answer_to
+login_before_a_group = refl
+
+-- ---- ranges
+
+pub zeros_in_front : range_of (codes "002-9999999999999999") ≡ Some (record { first = 2; last = 9999999999999999 })
+unfolding range_of
+zeros_in_front = refl
+
+pub one_number : range_of (codes "1") ≡ None
+unfolding range_of
+one_number = refl
+
+pub no_end : range_of (codes "1-") ≡ None
+unfolding range_of
+no_end = refl
+
+pub number_too_large : range_of (codes "1-10000000000000000") ≡ None
+unfolding range_of
+number_too_large = refl
 
 -- ---- fields
 
@@ -70,10 +105,59 @@ id_in_brackets = refl
 pub id_without_brackets : id_of (codes "Message-ID: a@b" ∷ codes "Message-ID: <a@b>" ∷ []) ≡ None
 id_without_brackets = refl
 
+-- ---- newsgroups
+
+abbrev article_in : List ℕ → Article
+article_in newsgroups = record {
+  id = codes "d@e";
+  newsgroups = newsgroups;
+  head = codes "Subject: a\tb" ∷ codes "From: c" ∷ [];
+  body = codes "line" ∷ [] ∷ [];
+}
+
+abbrev three : List Article
+three = article_in (codes "x,y") ∷ article_in (codes "y") ∷ article_in (codes "x") ∷ []
+
+pub second_name : in_group (codes "y") (article_in (codes "x,y")) ≡ true
+unfolding in_group
+second_name = refl
+
+pub both_names : in_group (codes "x,y") (article_in (codes "x,y")) ≡ false
+unfolding in_group
+both_names = refl
+
+pub first_and_third : group_reply (codes "x") three ≡ codes "211 2 1 3 x\r\n"
+unfolding group_line in_group reply_text digits
+first_and_third = refl
+
+pub no_article : group_reply (codes "z") three ≡ codes "411 none\r\n"
+unfolding group_line in_group reply_text
+no_article = refl
+
+-- ---- overviews
+
+-- the lines have 12, 7, 0, 4 and 0 bytes, and two more each
+pub one_overview : overview_of 3 (article_in (codes "x")) (codes "now") ≡ codes "3\ta b\tc\tnow\t<d@e>\t\t33\t2"
+unfolding overview_of digits
+one_overview = refl
+
+pub one_of_three : over_reply (Some (codes "x")) (record { first = 2; last = 3 }) (codes "now") three
+    ≡ codes "224 follows\r\n3\ta b\tc\tnow\t<d@e>\t\t33\t2\r\n.\r\n"
+unfolding in_group overview_of reply_text digits
+one_of_three = refl
+
+pub none_in_range : over_reply (Some (codes "x")) (record { first = 2; last = 2 }) (codes "now") three ≡ codes "423 none\r\n"
+unfolding in_group overview_of reply_text
+none_in_range = refl
+
+pub none_chosen : over_reply None (record { first = 1; last = 3 }) (codes "now") three ≡ codes "412 no group\r\n"
+unfolding reply_text
+none_chosen = refl
+
 -- ---- links
 
 abbrev heard : List ℕ → LinkState × List Article
-heard bytes = heard_bytes None bytes (new_link 0 None None, [])
+heard bytes = heard_bytes None [] bytes (new_link 0 None None, [])
 
 pub greeting : (heard []).0.talk.owed ≡ codes "200 ready\r\n"
 unfolding reply_text
@@ -88,25 +172,30 @@ pub article_is_kept : (heard posted).1 ≡ record {
   head = codes "From: a" ∷ codes "Newsgroups: b" ∷ codes "Subject: c" ∷ codes "Message-ID: <d>" ∷ [];
   body = codes ".e" ∷ [];
 } ∷ []
-unfolding reply_to reply_text article_of
+unfolding answer_to reply_text article_of
 article_is_kept = refl
 
 pub article_is_answered : (heard posted).0.talk.owed ≡ codes "200 ready\r\n340 send\r\n240 posted\r\n"
-unfolding reply_to reply_text article_of
+unfolding answer_to reply_text article_of
 article_is_answered = refl
 
 -- the same article again
 pub known_is_refused : (heard (posted ++ posted)).0.talk.owed ≡ codes "200 ready\r\n340 send\r\n240 posted\r\n340 send\r\n441 refused\r\n"
-unfolding reply_to reply_text article_of
+unfolding answer_to reply_text article_of
 known_is_refused = refl
 
 pub known_changes_nothing : length (heard (posted ++ posted)).1 ≡ 1
-unfolding reply_to reply_text article_of
+unfolding answer_to reply_text article_of
 known_changes_nothing = refl
+
+-- the newsgroup that is chosen stays where another one is refused
+pub refusal_keeps_the_group : (heard (posted ++ codes "GROUP b\r\nGROUP c\r\nOVER 1-1\r\n")).0.talk.group ≡ Some (codes "b")
+unfolding answer_to range_of reply_text article_of in_group group_line overview_of
+refusal_keeps_the_group = refl
 
 -- nothing is heard behind the end of the session
 pub nothing_is_heard : (heard (codes "QUIT\r\nPOST\r\n")).0.talk.owed ≡ codes "200 ready\r\n205 bye\r\n"
-unfolding reply_to reply_text
+unfolding answer_to reply_text
 nothing_is_heard = refl
 
 -- ---- what is due
@@ -136,7 +225,7 @@ pub link_falls_quiet : due_on None 64 (given 9 (new_link 0 None (Some 9))) ≡ d
 link_falls_quiet = refl
 
 pub session_ends : due_on None 64 (given 20 (heard (codes "QUIT\r\n")).0) ≡ due.End
-unfolding reply_to reply_text
+unfolding answer_to reply_text
 session_ends = refl
 
 pub nothing_is_owed : due_on None 64 (given 11 (new_link 0 None None)) ≡ due.Quiet

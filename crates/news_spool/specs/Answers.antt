@@ -3,8 +3,12 @@ use Rattle.std.specs.Prelude.{ℕ, Bool, not, ◌&&◌, ◌||◌, nat_lt, if◌t
 use Rattle.std.specs.Option.{is_some}
 use Rattle.std.specs.Str.{bytes_eq}
 use Rattle.nntp_lines.specs.Command.{crlf}
+use Rattle.news_spool.specs.declared.range.NumberRange.{NumberRange}
+use Rattle.news_spool.specs.declared.reply.Answer.{Answer}
+use Rattle.news_spool.specs.declared.reply.Answer.TheVariants.{Line, Group, Overview}
 use Rattle.news_spool.specs.declared.reply.Reply.{Reply}
-use Rattle.news_spool.specs.declared.reply.Reply.TheVariants.{Ready, Send, Posted, Refused, Bye, LoginFirst, PassNext, LoggedIn, NameFirst, WrongLogin, NoLogin, What}
+use Rattle.news_spool.specs.declared.reply.Reply.TheVariants.{Ready, Send, Posted, Refused, NotInGroup, NoneChosen, NoneInRange, Follows, Bye, LoginFirst, PassNext, LoggedIn, NameFirst, WrongLogin, NoLogin, What}
+use Rattle.news_spool.specs.Ranges.{range_of}
 
 -- ---- the text of each reply
 
@@ -14,6 +18,10 @@ reply_line Ready = codes "200 ready"
 reply_line Send = codes "340 send"
 reply_line Posted = codes "240 posted"
 reply_line Refused = codes "441 refused"
+reply_line NotInGroup = codes "411 none"
+reply_line NoneChosen = codes "412 no group"
+reply_line NoneInRange = codes "423 none"
+reply_line Follows = codes "224 follows"
 reply_line Bye = codes "205 bye"
 reply_line LoginFirst = codes "480 login"
 reply_line PassNext = codes "381 more"
@@ -61,13 +69,30 @@ login_reply None name line = NoLogin
 login_reply (Some own) name line =
     if is_user line then PassNext else if is_pass line then pass_reply own name (login_word line) else What
 
+-- to a command that names a newsgroup (RFC 3977, 6.1.1)
+abbrev pub is_group : List ℕ → Bool
+is_group line = begins (codes "GROUP ") line
+
+abbrev pub group_word : List ℕ → List ℕ
+group_word line = drop 6 line
+
+-- to one that asks for an overview (RFC 3977, 8.3), by the range that it gives
+abbrev pub is_over : List ℕ → Bool
+is_over line = begins (codes "OVER ") line
+
+abbrev pub over_answer : Option NumberRange → Answer
+over_answer None = Line What
+over_answer (Some range) = Overview range
+
 -- To any line of a command, by the server's login, whether the link is logged in, and the name that came last. A line of
 -- more than 510 bytes is no command (RFC 3977, 3.1).
-unfoldable pub reply_to : Option (List ℕ × List ℕ) → Bool → Option (List ℕ) → List ℕ → Reply
-reply_to login logged_in name line =
-    if nat_lt 510 (length line) then What
-    else if is_line (codes "QUIT") line then Bye
-    else if is_authinfo line then login_reply login name line
-    else if is_some login && not logged_in then LoginFirst
-    else if is_line (codes "POST") line then Send
-    else What
+unfoldable pub answer_to : Option (List ℕ × List ℕ) → Bool → Option (List ℕ) → List ℕ → Answer
+answer_to login logged_in name line =
+    if nat_lt 510 (length line) then Line What
+    else if is_line (codes "QUIT") line then Line Bye
+    else if is_authinfo line then Line (login_reply login name line)
+    else if is_some login && not logged_in then Line LoginFirst
+    else if is_line (codes "POST") line then Line Send
+    else if is_group line then Group
+    else if is_over line then over_answer (range_of (drop 5 line))
+    else Line What

@@ -1,9 +1,14 @@
 pub mod Answers
 pub mod Articles
 pub mod Fields
+pub mod Groups
 pub mod History
+pub mod Laws
 pub mod LinkState
 pub mod Links
+pub mod Octets
+pub mod Overview
 pub mod Pieces
+pub mod Ranges
 pub mod Spool
 pub mod Talk

@@ -40,22 +40,22 @@ abbrev pub without_end : List ℕ → List ℕ
 without_end line = take (length line - 2) line
 
 -- a line came, with its CRLF
-abbrev pub line_heard : Option (List ℕ × List ℕ) → List ℕ → LinkState × List Article → LinkState × List Article
-line_heard login line heard =
-    let after = heard_line login (without_end line) (heard.0.talk, heard.1) in
+abbrev pub line_heard : Option (List ℕ × List ℕ) → List ℕ → List ℕ → LinkState × List Article → LinkState × List Article
+line_heard login date line heard =
+    let after = heard_line login date (without_end line) (heard.0.talk, heard.1) in
     (with_line [] after.0 heard.0, after.1)
 
--- a byte came, to a server with this login
-abbrev pub heard_byte : Option (List ℕ × List ℕ) → ℕ → LinkState × List Article → LinkState × List Article
-heard_byte login byte heard =
+-- a byte came, to a server with this login, whose articles have this date
+abbrev pub heard_byte : Option (List ℕ × List ℕ) → List ℕ → ℕ → LinkState × List Article → LinkState × List Article
+heard_byte login date byte heard =
     let line = heard.0.line ++ byte ∷ [] in
-    if is_whole line then line_heard login line heard
+    if is_whole line then line_heard login date line heard
     else (with_line line heard.0.talk heard.0, heard.1)
 
 -- bytes came, one after the other
-abbrev pub heard_bytes : Option (List ℕ × List ℕ) → List ℕ → LinkState × List Article → LinkState × List Article
-heard_bytes login [] heard = heard
-heard_bytes login (byte ∷ bytes) heard = heard_bytes login bytes (heard_byte login byte heard)
+abbrev pub heard_bytes : Option (List ℕ × List ℕ) → List ℕ → List ℕ → LinkState × List Article → LinkState × List Article
+heard_bytes login date [] heard = heard
+heard_bytes login date (byte ∷ bytes) heard = heard_bytes login date bytes (heard_byte login date byte heard)
 
 -- ---- received
 
@@ -80,7 +80,13 @@ abbrev pub given : ℕ → LinkState → LinkState
 given n link = record {
   server = link.server;
   line = link.line;
-  talk = record { phase = link.talk.phase; name = link.talk.name; logged_in = link.talk.logged_in; owed = drop n link.talk.owed };
+  talk = record {
+    phase = link.talk.phase;
+    name = link.talk.name;
+    logged_in = link.talk.logged_in;
+    group = link.talk.group;
+    owed = drop n link.talk.owed;
+  };
   ends_in = left_of link.ends_in n;
   quiet_in = left_of link.quiet_in n;
 }

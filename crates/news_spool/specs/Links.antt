@@ -61,7 +61,7 @@ login_of servers server = option_and_then (λ at. at.login) (slice_get servers s
 abbrev pub after_sent : SpoolPlan → ℕ → List ℕ → List LinkState × List Article → List LinkState × List Article
 after_sent plan link bytes held =
     let state = state_at held.0 link in
-    let heard = heard_bytes (login_of plan.servers state.server) bytes (state, held.1) in
+    let heard = heard_bytes (login_of plan.servers state.server) plan.date bytes (state, held.1) in
     (slice_set held.0 link heard.0, heard.1)
 
 -- ---- received

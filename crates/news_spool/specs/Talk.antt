@@ -3,29 +3,42 @@
 use Rattle.std.specs.Prelude.{ℕ, Bool, true, false, ◌==◌, if◌then◌else◌, List, [], ◌∷◌, ◌++◌, length, Option, Some, None}
 use Rattle.dot_blocks.specs.BlockReading.{is_dot, unstuffed}
 use Rattle.news_spool.specs.declared.article.Article.{Article}
+use Rattle.news_spool.specs.declared.reply.Answer.{Answer}
+use Rattle.news_spool.specs.declared.reply.Answer.TheVariants.{Line, Group, Overview}
 use Rattle.news_spool.specs.declared.reply.Reply.{Reply}
 use Rattle.news_spool.specs.declared.reply.Reply.TheVariants as reply
 use Rattle.news_spool.specs.declared.talk.Phase.{Phase}
 use Rattle.news_spool.specs.declared.talk.Phase.TheVariants.{Commands, Head, Body, Over}
 use Rattle.news_spool.specs.declared.talk.Talk.{Talk}
-use Rattle.news_spool.specs.Answers.{login_word, reply_text, reply_to}
+use Rattle.news_spool.specs.Answers.{answer_to, group_word, login_word, reply_text}
 use Rattle.news_spool.specs.Articles.{article_of, is_known}
+use Rattle.news_spool.specs.Groups.{chosen_after, group_count, group_reply}
+use Rattle.news_spool.specs.Overview.{over_reply}
 
--- one more reply is owed
+-- a text is owed, and one more reply
+abbrev pub saying : List ℕ → Talk → Talk
+saying text talk = record {
+  phase = talk.phase;
+  name = talk.name;
+  logged_in = talk.logged_in;
+  group = talk.group;
+  owed = talk.owed ++ text;
+}
+
 abbrev pub owing : Reply → Talk → Talk
-owing reply talk = record { phase = talk.phase; name = talk.name; logged_in = talk.logged_in; owed = talk.owed ++ reply_text reply }
+owing reply talk = saying (reply_text reply) talk
 
 -- something else comes next
 abbrev pub in_phase : Phase → Talk → Talk
-in_phase phase talk = record { phase = phase; name = talk.name; logged_in = talk.logged_in; owed = talk.owed }
+in_phase phase talk = record { phase = phase; name = talk.name; logged_in = talk.logged_in; group = talk.group; owed = talk.owed }
 
 -- a talk begins with the greeting, which is answered to no line
 abbrev pub new_talk : Talk
-new_talk = record { phase = Commands; name = None; logged_in = false; owed = reply_text reply.Ready }
+new_talk = record { phase = Commands; name = None; logged_in = false; group = None; owed = reply_text reply.Ready }
 
 -- what is kept of one that has ended
 abbrev pub ended_talk : Talk
-ended_talk = record { phase = Over; name = None; logged_in = false; owed = [] }
+ended_talk = record { phase = Over; name = None; logged_in = false; group = None; owed = [] }
 
 -- ---- commands
 
@@ -50,12 +63,30 @@ after_reply reply line talk = record {
   phase = phase_after reply;
   name = name_after reply line talk.name;
   logged_in = logged_in_after reply talk.logged_in;
+  group = talk.group;
   owed = talk.owed ++ reply_text reply;
 }
 
+-- what a command leaves that names a newsgroup
+abbrev pub after_group : List ℕ → List Article → Talk → Talk
+after_group name articles talk = record {
+  phase = talk.phase;
+  name = talk.name;
+  logged_in = talk.logged_in;
+  group = chosen_after name (group_count name articles) talk.group;
+  owed = talk.owed ++ group_reply name articles;
+}
+
+-- what an answer leaves, over these articles, each of which has this date
+abbrev pub answered : Answer → List ℕ → List ℕ → List Article → Talk → Talk
+answered (Line reply) line date articles talk = after_reply reply line talk
+answered Group line date articles talk = after_group (group_word line) articles talk
+answered (Overview range) line date articles talk = saying (over_reply talk.group range date articles) talk
+
 -- a command came, to a server with this login
-abbrev pub heard_command : Option (List ℕ × List ℕ) → List ℕ → Talk → Talk
-heard_command login line talk = after_reply (reply_to login talk.logged_in talk.name line) line talk
+abbrev pub heard_command : Option (List ℕ × List ℕ) → List ℕ → List ℕ → List Article → Talk → Talk
+heard_command login date line articles talk =
+    answered (answer_to login talk.logged_in talk.name line) line date articles (in_phase Commands talk)
 
 -- ---- articles
 
@@ -87,12 +118,12 @@ heard_body head body line heard =
 
 -- ---- lines
 
-abbrev pub heard_in : Phase → Option (List ℕ × List ℕ) → List ℕ → Talk × List Article → Talk × List Article
-heard_in Commands login line heard = (heard_command login line heard.0, heard.1)
-heard_in (Head head) login line heard = (heard_head head line heard.0, heard.1)
-heard_in (Body head body) login line heard = heard_body head body line heard
-heard_in Over login line heard = heard
+abbrev pub heard_in : Phase → Option (List ℕ × List ℕ) → List ℕ → List ℕ → Talk × List Article → Talk × List Article
+heard_in Commands login date line heard = (heard_command login date line heard.1 heard.0, heard.1)
+heard_in (Head head) login date line heard = (heard_head head line heard.0, heard.1)
+heard_in (Body head body) login date line heard = heard_body head body line heard
+heard_in Over login date line heard = heard
 
 -- a line came, without its CRLF
-abbrev pub heard_line : Option (List ℕ × List ℕ) → List ℕ → Talk × List Article → Talk × List Article
-heard_line login line heard = heard_in heard.0.phase login line heard
+abbrev pub heard_line : Option (List ℕ × List ℕ) → List ℕ → List ℕ → Talk × List Article → Talk × List Article
+heard_line login date line heard = heard_in heard.0.phase login date line heard

@@ -1,5 +1,6 @@
 // Articles, and what of the lines that are posted makes one.
-ghost use Rattle.std.specs.Prelude.{◌≡◌, IfOk};
+ghost use Rattle.std.specs.Prelude.{◌≡◌, ◌+◌, fold, IfOk};
+ghost use Rattle.news_spool.specs.Octets.{with_octets};
 
 use crate::field::{has_from_and_subject, id_of, newsgroups_of};
 use nntp_lines::MessageId;
@@ -21,6 +22,8 @@ pub(crate) struct Article {
 
 impl Article {
     ghost use Rattle.news_spool.specs.Articles.{article_of, is_known};
+    ghost use Rattle.news_spool.specs.Groups.{in_group};
+    ghost use Rattle.news_spool.specs.Overview.{octets_of};
 
     // The article of a head and a body, or `None` where the head lacks one of the four fields that a poster has to give
     // (RFC 5536, 3.1).
@@ -58,5 +61,46 @@ impl Article {
         articles
             .iter()
             .any(|article| article.id.as_slice() == id.as_slice())
+    }
+
+    // Whether it is in the newsgroup of this name (RFC 5536, 3.1.4).
+    #[tactic(auto, unfolding(crate::specs::Groups::in_group))]
+    pub(crate) fn is_in(&self, name: &[u8]) -> bool
+        ensures { result ≡ in_group name.now self.now }
+    {
+        self.newsgroups
+            .as_slice()
+            .split(|byte| *byte == b',')
+            .any(|own| own == name)
+    }
+
+    // How many octets it has, with CRLF behind each line and before dots are added.
+    pub(crate) fn octets(&self) -> Result<u64, Memory>
+        ensures { IfOk result (λ octets. octets ≡ octets_of self.now) }
+    {
+        let head = octets_behind(0, &self.head)?;
+        let empty = with_line(head, 0)?;
+        octets_behind(empty, &self.body)
+    }
+}
+
+// So many octets, and those of these lines.
+fn octets_behind(before: u64, lines: &Lines) -> Result<u64, Memory>
+    ensures { IfOk result (λ octets. octets ≡ fold with_octets before lines.now) }
+{
+    let mut octets = before;
+    for i in 0..lines.len() {
+        octets = with_line(octets, lines.line(i).len())?;
+    }
+    Ok(octets)
+}
+
+// So many octets, and those of a line of this length. More than fit into the number fit into no memory.
+fn with_line(octets: u64, len: usize) -> Result<u64, Memory>
+    ensures { IfOk result (λ more. more ≡ octets + (len + 2)) }
+{
+    match octets.checked_add(len as u64) {
+        Some(octets) => octets.checked_add(2).ok_or(Memory),
+        None => Err(Memory),
     }
 }

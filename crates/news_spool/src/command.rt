@@ -1,8 +1,9 @@
 // Commands as a server in memory hears them. Keywords are read in upper case alone.
 ghost use Rattle.std.specs.Prelude.{◌≡◌, ◌≢◌, ◌≤◌, length};
-ghost use Rattle.news_spool.specs.Answers.{is_authinfo, login_reply, pass_reply, reply_to};
+ghost use Rattle.news_spool.specs.Answers.{answer_to, is_authinfo, login_reply, over_answer, pass_reply};
 
-use crate::reply::Reply;
+use crate::range::NumberRange;
+use crate::reply::{Answer, Reply};
 use ub_base::Bytes;
 
 // The greatest length of a command in bytes, without its CRLF (RFC 3977, 3.1).
@@ -11,34 +12,55 @@ const MOST: usize = 510;
 // How many bytes stand before the argument of `AUTHINFO USER ` and `AUTHINFO PASS `.
 pub(crate) const LOGIN_WORD: usize = 14;
 
-// The reply to a command without its CRLF, by the server's login, whether the link is logged in, and the name that came
+// How many bytes stand before the argument of `GROUP `.
+pub(crate) const GROUP_WORD: usize = 6;
+
+// The answer to a command without its CRLF, by the server's login, whether the link is logged in, and the name that came
 // last.
-#[tactic(auto, unfolding(crate::specs::Answers::reply_to))]
-pub(crate) fn reply_to(
+#[tactic(auto, unfolding(crate::specs::Answers::answer_to))]
+pub(crate) fn answer_to(
     login: &Option<(Bytes, Bytes)>,
     logged_in: bool,
     name: &Option<Bytes>,
     line: &[u8],
-) -> Reply
-    ensures reply { result ≡ reply_to login.now logged_in name.now line.now }
-    ensures word { result ≡ Reply.PassNext → 14 ≤ length line.now }
+) -> Answer
+    ensures answer { result ≡ answer_to login.now logged_in name.now line.now }
+    ensures login_word { result ≡ Answer.Line Reply.PassNext → 14 ≤ length line.now }
+    ensures group_word { result ≡ Answer.Group → 6 ≤ length line.now }
 {
     if line.len() > MOST {
-        return Reply::What;
+        return Answer::Line(Reply::What);
     }
     if line == b"QUIT".as_slice() {
-        return Reply::Bye;
+        return Answer::Line(Reply::Bye);
     }
     if is_authinfo(line) {
-        return login_reply(login, name, line);
+        return Answer::Line(login_reply(login, name, line));
     }
     if login.is_some() && !logged_in {
-        return Reply::LoginFirst;
+        return Answer::Line(Reply::LoginFirst);
     }
     if line == b"POST".as_slice() {
-        return Reply::Send;
+        return Answer::Line(Reply::Send);
     }
-    Reply::What
+    if line.strip_prefix(b"GROUP ").is_some() {
+        return Answer::Group;
+    }
+    match line.strip_prefix(b"OVER ") {
+        Some(range) => over_answer(NumberRange::from_text(range)),
+        None => Answer::Line(Reply::What),
+    }
+}
+
+fn over_answer(range: Option<NumberRange>) -> Answer
+    ensures answer { result ≡ over_answer range }
+    ensures login_word { result ≢ Answer.Line Reply.PassNext }
+    ensures group_word { result ≢ Answer.Group }
+{
+    match range {
+        Some(range) => Answer::Overview(range),
+        None => Answer::Line(Reply::What),
+    }
 }
 
 fn is_authinfo(line: &[u8]) -> bool

@@ -11,7 +11,7 @@ use std::alloc::Global;
 use ub_base::{Bytes, Lines, Memory};
 
 // What the first line says that begins with these bytes, a field's name, a colon and a space.
-fn field_of<'a>(name: &[u8], head: &'a Lines) -> Option<&'a [u8]>
+pub(crate) fn field_of<'a>(name: &[u8], head: &'a Lines) -> Option<&'a [u8]>
     ensures { option_copied result ≡ field_of name.now head.now }
 {
     for i in 0..head.len() {

@@ -59,20 +59,22 @@ impl LinkState {
         }
     }
 
-    // Hears bytes, to a server with this login. Where memory runs out, articles may have been kept.
+    // Hears bytes, to a server with this login, whose articles have this date. Where memory runs out, articles may have been
+    // kept.
     pub(crate) fn hear(
         &mut self,
         alloc: Global,
         login: &Option<(Bytes, Bytes)>,
+        date: &[u8],
         bytes: &[u8],
         articles: &mut List<Article>,
     ) -> Result<(), Memory>
-        ensures ok { OnOk result ((self.new, articles.new) ≡ heard_bytes login.now bytes.now (self.old, articles.old)) }
+        ensures ok { OnOk result ((self.new, articles.new) ≡ heard_bytes login.now date.now bytes.now (self.old, articles.old)) }
         ensures kept { take (length articles.old) articles.new ≡ articles.old }
         ensures server { self.new.server ≡ self.old.server }
     {
         for byte in bytes {
-            self.hear_byte(alloc, login, *byte, articles)?;
+            self.hear_byte(alloc, login, date, *byte, articles)?;
         }
         Ok(())
     }
@@ -81,10 +83,11 @@ impl LinkState {
         &mut self,
         alloc: Global,
         login: &Option<(Bytes, Bytes)>,
+        date: &[u8],
         byte: u8,
         articles: &mut List<Article>,
     ) -> Result<(), Memory>
-        ensures ok { OnOk result ((self.new, articles.new) ≡ heard_byte login.now byte (self.old, articles.old)) }
+        ensures ok { OnOk result ((self.new, articles.new) ≡ heard_byte login.now date.now byte (self.old, articles.old)) }
         ensures kept { take (length articles.old) articles.new ≡ articles.old }
         ensures server { self.new.server ≡ self.old.server }
     {
@@ -95,7 +98,7 @@ impl LinkState {
         let end = self.line.len() - 2;
         self.line.truncate(end);
         self.talk
-            .hear_line(alloc, login, self.line.as_slice(), articles)?;
+            .hear_line(alloc, login, date, self.line.as_slice(), articles)?;
         self.line.clear();
         Ok(())
     }

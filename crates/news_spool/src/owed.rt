@@ -1,9 +1,11 @@
 // Bytes that are to be given, of which the first ones may have been.
-ghost use Rattle.std.specs.Prelude.{◌≡◌, ◌≤◌, [], ◌++◌, length, take, drop, OnOk, OnErr, IsTrue, ◌↔◌};
+ghost use Rattle.std.specs.Prelude.{◌≡◌, ◌≤◌, [], ◌++◌, length, take, drop, decimal, OnOk, OnErr, IsTrue, ◌↔◌};
+ghost use Rattle.news_spool.specs.Answers.{reply_text};
 
+use crate::reply::Reply;
 use std::alloc::Global;
 use std::marker::Model;
-use ub_base::{Bytes, Memory};
+use ub_base::{Bytes, Memory, write_dec};
 
 /// The bytes that a link is owed. Contracts see the list of those that weren't given yet.
 #[derive(Drop)]
@@ -46,6 +48,24 @@ impl Owed {
         ensures err { OnErr result (self.new ≡ self.old) }
     {
         self.bytes.extend(more)
+    }
+
+    // Appends the digits of a number.
+    pub(crate) fn extend_number(&mut self, number: u64) -> Result<(), Memory>
+        ensures { OnOk result (self.new ≡ self.old ++ decimal number) }
+    {
+        let mut digits = [0; 20];
+        let len = write_dec(number, &mut digits);
+        self.extend(&digits[..len])
+    }
+
+    // Appends a reply of one line.
+    #[tactic(auto, unfolding(crate::specs::Answers::reply_text))]
+    pub(crate) fn say(&mut self, reply: Reply) -> Result<(), Memory>
+        ensures { OnOk result (self.new ≡ self.old ++ reply_text reply) }
+    {
+        self.extend(reply.line())?;
+        self.extend(b"\r\n")
     }
 
     // The first `n` bytes were given. The room of those that were is used again once nothing is owed.

@@ -2,6 +2,19 @@
 ghost use Rattle.std.specs.Prelude.{◌≡◌};
 ghost use Rattle.news_spool.specs.Answers.{reply_line};
 
+use crate::range::NumberRange;
+
+/// What a command is answered.
+#[derive(Clone, Copy, Debug, PartialEq, Eq)]
+pub(crate) enum Answer {
+    /// This line, whatever the articles are.
+    Line(Reply),
+    /// What the articles say of the newsgroup that is named (RFC 3977, 6.1.1).
+    Group,
+    /// The overview of the articles with these numbers (RFC 3977, 8.3).
+    Overview(NumberRange),
+}
+
 /// What a server says, a status line each (RFC 3977, and RFC 4643 for the login).
 #[derive(Clone, Copy, Debug, PartialEq, Eq)]
 pub(crate) enum Reply {
@@ -13,6 +26,14 @@ pub(crate) enum Reply {
     Posted,
     /// The article was not taken.
     Refused,
+    /// No article is in the newsgroup that is named (RFC 3977, 6.1.1).
+    NotInGroup,
+    /// No newsgroup was chosen before an overview (RFC 3977, 8.3).
+    NoneChosen,
+    /// No article of the newsgroup is in the range.
+    NoneInRange,
+    /// The overview follows.
+    Follows,
     /// The session ends (RFC 3977, 5.4).
     Bye,
     /// A login has to come first (RFC 4643, 2.2).
@@ -41,6 +62,10 @@ impl Reply {
             Reply::Send => b"340 send",
             Reply::Posted => b"240 posted",
             Reply::Refused => b"441 refused",
+            Reply::NotInGroup => b"411 none",
+            Reply::NoneChosen => b"412 no group",
+            Reply::NoneInRange => b"423 none",
+            Reply::Follows => b"224 follows",
             Reply::Bye => b"205 bye",
             Reply::LoginFirst => b"480 login",
             Reply::PassNext => b"381 more",

@@ -164,7 +164,8 @@ impl Spool {
         let alloc = self.log.alloc();
         let state = &mut self.links[link as usize];
         let login = login_of(self.plan.servers.as_slice(), state.server);
-        state.hear(alloc, login, bytes, &mut self.articles)
+        let date = self.plan.date.as_slice();
+        state.hear(alloc, login, date, bytes, &mut self.articles)
     }
 
     // Hears bytes on a link, and tells them. Where memory runs out, articles may have been kept.

@@ -1,12 +1,14 @@
 // What is said on one link, line by line.
-ghost use Rattle.std.specs.Prelude.{◌≡◌, [], ◌++◌, length, take, IfOk, OnOk, false, None};
+ghost use Rattle.std.specs.Prelude.{◌≡◌, ◌≤◌, [], ◌++◌, length, take, IfOk, OnOk, false, None};
 ghost use Rattle.dot_blocks.specs.BlockReading.{is_dot, unstuffed};
-ghost use Rattle.news_spool.specs.Answers.{reply_text};
 
 use crate::article::Article;
-use crate::command::{LOGIN_WORD, reply_to};
+use crate::command::{GROUP_WORD, LOGIN_WORD, answer_to};
+use crate::group::{append_group, count_group};
+use crate::overview::append_overviews;
 use crate::owed::Owed;
-use crate::reply::Reply;
+use crate::range::NumberRange;
+use crate::reply::{Answer, Reply};
 use std::alloc::Global;
 use std::mem;
 use ub_base::{Bytes, Lines, List, Memory};
@@ -33,12 +35,15 @@ pub(crate) struct Talk {
     pub(crate) name: Option<Bytes>,
     /// Whether the login is done.
     pub(crate) logged_in: bool,
+    /// The newsgroup that was chosen last.
+    pub(crate) group: Option<Bytes>,
     /// What of the replies wasn't given yet.
     pub(crate) owed: Owed,
 }
 
 impl Talk {
-    ghost use Rattle.news_spool.specs.Talk.{after_reply, articles_after, article_reply, ended_talk, heard_body, heard_command, heard_head, heard_line, in_phase, judged, new_talk, owing};
+    ghost use Rattle.news_spool.specs.Overview.{over_reply};
+    ghost use Rattle.news_spool.specs.Talk.{after_group, after_reply, answered, articles_after, article_reply, ended_talk, heard_body, heard_command, heard_head, heard_line, in_phase, judged, new_talk, owing, saying};
 
     // A talk that begins with the greeting.
     pub(crate) fn new(alloc: Global) -> Result<Self, Memory>
@@ -48,6 +53,7 @@ impl Talk {
             phase: Phase::Commands,
             name: None,
             logged_in: false,
+            group: None,
             owed: Owed::new(alloc),
         };
         match talk.say(Reply::Ready) {
@@ -64,23 +70,26 @@ impl Talk {
             phase: Phase::Over,
             name: None,
             logged_in: false,
+            group: None,
             owed: Owed::new(alloc),
         }
     }
 
-    // Hears a line without its CRLF, to a server with this login. Where memory runs out, an article may have been kept.
+    // Hears a line without its CRLF, to a server with this login, whose articles have this date. Where memory runs out, an
+    // article may have been kept.
     pub(crate) fn hear_line(
         &mut self,
         alloc: Global,
         login: &Option<(Bytes, Bytes)>,
+        date: &[u8],
         line: &[u8],
         articles: &mut List<Article>,
     ) -> Result<(), Memory>
-        ensures ok { OnOk result ((self.new, articles.new) ≡ heard_line login.now line.now (self.old, articles.old)) }
+        ensures ok { OnOk result ((self.new, articles.new) ≡ heard_line login.now date.now line.now (self.old, articles.old)) }
         ensures kept { take (length articles.old) articles.new ≡ articles.old }
     {
         match mem::replace(&mut self.phase, Phase::Over) {
-            Phase::Commands => self.hear_command(alloc, login, line),
+            Phase::Commands => self.hear_command(alloc, login, date, line, articles.as_slice()),
             Phase::Head(head) => self.hear_head(alloc, head, line),
             Phase::Body(head, body) => self.hear_body(alloc, head, body, line, articles),
             Phase::Over => Ok(()),
@@ -91,12 +100,26 @@ impl Talk {
         &mut self,
         alloc: Global,
         login: &Option<(Bytes, Bytes)>,
+        date: &[u8],
         line: &[u8],
+        articles: &[Article],
     ) -> Result<(), Memory>
-        ensures { OnOk result (self.new ≡ heard_command login.now line.now self.old) }
+        ensures { OnOk result (self.new ≡ heard_command login.now date.now line.now articles.now self.old) }
     {
         self.phase = Phase::Commands;
-        let reply = reply_to(login, self.logged_in, &self.name, line);
+        match answer_to(login, self.logged_in, &self.name, line) {
+            Answer::Line(reply) => self.answer(alloc, reply, line),
+            Answer::Group => self.choose(alloc, line.split_at(GROUP_WORD).1, articles),
+            Answer::Overview(range) => self.say_overviews(range, date, articles),
+        }
+    }
+
+    // Gives a reply of one line to a command, and does what it says.
+    fn answer(&mut self, alloc: Global, reply: Reply, line: &[u8]) -> Result<(), Memory>
+        requires phase { self.old.phase ≡ Phase.Commands }
+        requires word { reply ≡ Reply.PassNext → 14 ≤ length line.now }
+        ensures { OnOk result (self.new ≡ after_reply reply line.now self.old) }
+    {
         self.say(reply)?;
         match reply {
             Reply::Send => {
@@ -118,6 +141,38 @@ impl Talk {
                 Ok(())
             }
             _ => Ok(()),
+        }
+    }
+
+    // Chooses the newsgroup of this name, if an article is in it.
+    fn choose(&mut self, alloc: Global, name: &[u8], articles: &[Article]) -> Result<(), Memory>
+        ensures { OnOk result (self.new ≡ after_group name.now articles.now self.old) }
+    {
+        match count_group(name, articles) {
+            None => self.say(Reply::NotInGroup),
+            Some(told) => {
+                let mut group = Bytes::new(alloc);
+                group.extend(name)?;
+                append_group(name, told, &mut self.owed)?;
+                self.owed.extend(b"\r\n")?;
+                self.group = Some(group);
+                Ok(())
+            }
+        }
+    }
+
+    // Owes the overview of the articles of the chosen newsgroup that are in a range.
+    fn say_overviews(
+        &mut self,
+        range: NumberRange,
+        date: &[u8],
+        articles: &[Article],
+    ) -> Result<(), Memory>
+        ensures { OnOk result (self.new ≡ saying (over_reply self.old.group range date.now articles.now) self.old) }
+    {
+        match &self.group {
+            None => self.owed.say(Reply::NoneChosen),
+            Some(name) => append_overviews(name.as_slice(), range, date, articles, &mut self.owed),
         }
     }
 
@@ -180,12 +235,10 @@ impl Talk {
     }
 
     // Owes one more reply.
-    #[tactic(auto, unfolding(crate::specs::Answers::reply_text))]
     fn say(&mut self, reply: Reply) -> Result<(), Memory>
         ensures { OnOk result (self.new ≡ owing reply self.old) }
     {
-        self.owed.extend(reply.line())?;
-        self.owed.extend(b"\r\n")
+        self.owed.say(reply)
     }
 }
 

@@ -1,5 +1,5 @@
 -- What a grouper stands for behind one line more.
-use Rattle.std.proofs.Common.{◌≡◌, ℕ, ◌+◌, ◌≤◌, ◌<◌, ◌⊎◌, inl, inr, Bool, true, false, cond, ◌&&◌, ◌==◌, List, [], ◌∷◌, ◌++◌, length, All, None, Some, Ok, Err, Result, Option, IsErr, IsSome, is_err, is_some, nat_cmp, option_map, refl, sym, ap, subst, ◌∙◌, arith}
+use Rattle.std.proofs.Common.{◌≡◌, ℕ, ◌+◌, ◌≤◌, ◌<◌, inl, inr, Bool, true, false, List, [], ◌∷◌, ◌++◌, length, None, Some, Ok, Err, Result, Option, IsErr, IsSome, is_err, is_some, nat_cmp, option_map, refl, sym, ap, subst, ◌∙◌, arith}
 use Rattle.std.specs.BTreeMap.{btree_map_len, get}
 use Rattle.std.specs.List.{AllZip, list_any}
 use Rattle.std.specs.Map.{lookup, set_value, values_of}

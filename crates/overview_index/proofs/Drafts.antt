@@ -1,6 +1,6 @@
 -- A file, while articles are added.
 use Rattle.std.proofs.Common.{◌≡◌, ℕ, ◌≤◌, Bool, true, false, cond, ◌&&◌, ◌||◌, ◌==◌, inl, inr, List, [], ◌∷◌, ◌++◌, filter, find, None, Some, Option, IsSome, is_some, option_map, nat_cmp, refl, sym, ap, subst, ◌∙◌, append-nil, arith}
-use Rattle.std.specs.BTreeMap.{IsOrdered, get, is_at, keys}
+use Rattle.std.specs.BTreeMap.{get, is_at}
 use Rattle.std.specs.List.{list_any}
 use Rattle.std.specs.List.Sorted.{IsStrictlySortedBy}
 use Rattle.std.specs.Map.{keys_of, lookup}
@@ -11,7 +11,7 @@ use Rattle.std.proofs.lemmas.List.Elements.{filter-append}
 use Rattle.std.proofs.lemmas.List.Folds.{find-append}
 use Rattle.std.proofs.lemmas.Option.{none-some}
 use Rattle.overview_index.specs.Draft.{HasSegmentMore, IsBegunBy, IsDraftOf, IsSameDraft}
-use Rattle.overview_index.specs.Group.{Counted, Key, has_key, key_of, number_of, segment_of}
+use Rattle.overview_index.specs.Group.{Counted, Key, has_key, number_of, segment_of}
 use Rattle.overview_index.specs.declared.draft.Draft.{Draft}
 
 abbrev numbered : ℕ → Counted → Bool

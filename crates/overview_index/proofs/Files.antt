@@ -1,15 +1,15 @@
 -- The table of files, while articles are added.
-use Rattle.std.proofs.Common.{◌≡◌, ℕ, suc, Bool, true, false, cond, ◌||◌, List, [], ◌∷◌, ◌++◌, length, map, None, Some, Option, Vec, IsSome, is_some, bytes_eq, refl, sym, ap, subst, ◌∙◌, arith}
+use Rattle.std.proofs.Common.{◌≡◌, ℕ, suc, Bool, true, false, cond, ◌||◌, List, [], ◌∷◌, ◌++◌, length, Some, Vec, is_some, refl, sym, ap, subst, ◌∙◌}
 use Rattle.std.specs.List.{AllByRecursion, AllZip, IsDistinct, list_any}
 use Rattle.std.specs.Map.{lookup, set_value}
-use Rattle.std.proofs.lemmas.Bool.{or_parts, true≢false}
+use Rattle.std.proofs.lemmas.Bool.{or_parts}
 use Rattle.std.proofs.lemmas.Map.Keys.{IsDistinct-head, IsDistinct-tail}
 use Rattle.overview_lines.specs.OverLine.{is_plain}
-use Rattle.overview_index.specs.Draft.{IsDraftOf, IsSameDraft}
-use Rattle.overview_index.specs.Group.{Counted, Key, has_key, key_of, same_key}
+use Rattle.overview_index.specs.Draft.{IsDraftOf}
+use Rattle.overview_index.specs.Group.{Counted, Key, key_of, same_key}
 use Rattle.overview_index.specs.Grouper.{IsEntryOf, is_spelled, spelled}
 use Rattle.overview_index.specs.declared.draft.Draft.{Draft}
-use Rattle.overview_index.proofs.Drafts.{draft_kept, draft_same}
+use Rattle.overview_index.proofs.Drafts.{draft_kept}
 use Rattle.overview_index.proofs.Keys.{bytes_eq-spelled, same_key-Decides, same_key-sym}
 
 pub AllZip-push : {A B : Type 0} (R : A → B → Type 0) (xs : List A) (ys : List B) (x : A) (y : B) → AllZip R xs ys → R x y → AllZip R (xs ++ x ∷ []) (ys ++ y ∷ [])

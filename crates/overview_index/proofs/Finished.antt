@@ -1,5 +1,5 @@
 -- The index of the files of a grouper.
-use Rattle.std.proofs.Common.{◌≡◌, ℕ, ◌==◌, Bool, true, false, cond, List, [], ◌∷◌, length, get_or, map, filter, find, All, None, Some, Option, Vec, nat_cmp, option_map, refl, sym, ap, subst, ◌∙◌, eqb-true, arith}
+use Rattle.std.proofs.Common.{◌≡◌, ℕ, ◌==◌, Bool, true, false, cond, List, [], ◌∷◌, get_or, map, filter, find, None, Some, Option, Vec, nat_cmp, option_map, refl, sym, ap, subst, ◌∙◌, eqb-true, arith}
 use Rattle.std.specs.BTreeMap.{is_at, values}
 use Rattle.std.specs.List.{AllByRecursion, AllZip}
 use Rattle.std.specs.List.Sorted.{IsStrictlyIncreasing}

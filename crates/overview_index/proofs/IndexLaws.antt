@@ -1,5 +1,5 @@
 -- A list of lines has one index.
-use Rattle.std.proofs.Common.{◌≡◌, ℕ, ◌≤◌, ◌<◌, ◌==◌, inl, inr, true, false, cond, ◌⊎◌, List, [], ◌∷◌, map, filter, find, None, Some, Option, Less, nat_cmp, option_map, refl, sym, ap, ◌∙◌, arith}
+use Rattle.std.proofs.Common.{◌≡◌, ℕ, ◌≤◌, ◌<◌, ◌==◌, inl, inr, cond, ◌⊎◌, List, [], ◌∷◌, map, filter, find, None, Some, Option, Less, nat_cmp, refl, sym, ap, ◌∙◌, arith}
 use Rattle.std.specs.List.{AllByRecursion, AllZip}
 use Rattle.std.specs.List.Sorted.{IsStrictlySortedBy}
 use Rattle.std.proofs.lemmas.Bool.{cases_lt, cases_order, eq-eqb, ne_eqb}
@@ -7,7 +7,6 @@ use Rattle.std.proofs.lemmas.Bool.Decides.{nat_tests}
 use Rattle.std.proofs.lemmas.Map.Keys.{sorted_from_strictly_increasing, sorted_head, sorted_tail}
 use Rattle.std.proofs.lemmas.Option.{none-some, same_Some}
 use Rattle.nzb_index.specs.declared.index.FileEntry.{FileEntry}
-use Rattle.nzb_index.specs.declared.index.Index.{Index}
 use Rattle.nzb_index.specs.declared.index.Segment.{Segment}
 use Rattle.overview_index.specs.Group.{AreSegments, Counted, IsFileOf, Key, OneIndexOfLines, counted_in, has_key, keys_of, seconds_of}
 

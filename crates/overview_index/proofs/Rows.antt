@@ -1,16 +1,15 @@
 -- Articles, their files and an index, computed on cases that were written out by hand.
-use Rattle.std.proofs.Common.{◌≡◌, ℕ, zero, suc, ◌+◌, ◌<◌, ◌==◌, inl, inr, true, false, List, [], ◌∷◌, find, map, Some, None, option_map, slice_index, refl, subst, arith, lit<}
+use Rattle.std.proofs.Common.{◌≡◌, ℕ, zero, suc, ◌==◌, inl, inr, List, [], ◌∷◌, find, None, option_map, refl, subst, arith, lit<}
 use Rattle.std.specs.Prelude.{codes}
 use Rattle.std.specs.List.Sorted.{IsStrictlyIncreasing}
 use Rattle.std.proofs.lemmas.Bool.{cases_eq, ne_eqb}
 use Rattle.nzb_index.specs.declared.index.FileEntry.{FileEntry}
-use Rattle.nzb_index.specs.declared.index.Index.{Index}
 use Rattle.nzb_index.specs.declared.index.Segment.{Segment}
 use Rattle.overview_lines.specs.Count.{count_at, count_of, last_count, number_before}
 use Rattle.overview_lines.specs.Date.{date_of, seconds_of, words_from, words_of}
 use Rattle.overview_lines.specs.DateParts.{year_of}
 use Rattle.overview_lines.specs.OverLine.{Over}
-use Rattle.overview_index.specs.Group.{AreSegments, BringsSegment, Counted, IsFileOf, IsIndexOfLines, IsRepeat, counted, counted_in, each_once, files_in, has_key, key_of, keys_of, number_of, parts_of, same_key, segment_of, segments_in}
+use Rattle.overview_index.specs.Group.{BringsSegment, Counted, IsFileOf, IsIndexOfLines, IsRepeat, counted, counted_in, each_once, files_in, key_of, keys_of, number_of, parts_of, segment_of, segments_in}
 
 -- ---- members once
 

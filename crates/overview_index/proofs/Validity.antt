@@ -1,10 +1,10 @@
 -- The index of a grouper has a canonical text that is read again.
-use Rattle.std.proofs.Common.{◌≡◌, ℕ, zero, suc, ◌+◌, ◌-◌, ◌≤◌, ◌<◌, ◌&&◌, ◌==◌, Bool, true, false, cond, List, [], ◌∷◌, length, get_or, take, map, filter, find, All, Some, Vec, sum_by, refl, sym, ap, subst, ◌∙◌, lit≤, arith}
+use Rattle.std.proofs.Common.{◌≡◌, ℕ, zero, suc, ◌+◌, ◌-◌, ◌≤◌, ◌<◌, ◌&&◌, ◌==◌, Bool, true, false, cond, List, [], ◌∷◌, length, get_or, map, filter, Vec, sum_by, refl, sym, ap, subst, ◌∙◌, arith}
 use Rattle.std.specs.Prelude.{nat_le}
 use Rattle.std.specs.BTreeMap.{btree_map_len, values}
-use Rattle.std.specs.List.{AllByRecursion, AllZip, list_all, list_any, prefix_len, suffix_len}
+use Rattle.std.specs.List.{AllByRecursion, AllZip, list_all, prefix_len, suffix_len}
 use Rattle.std.specs.Map.{values_of}
-use Rattle.std.proofs.lemmas.Bool.{and_from, and_parts, le-leb, leb-true}
+use Rattle.std.proofs.lemmas.Bool.{and_from, and_parts, le-leb}
 use Rattle.std.proofs.lemmas.Bool.Decides.{nat_tests}
 use Rattle.std.proofs.lemmas.List.{length-map, take_all}
 use Rattle.std.proofs.lemmas.List.Elements.{recursion_from_All}
@@ -15,7 +15,6 @@ use Rattle.nntp_lines.specs.MessageId.{IsMessageId, is_id_byte}
 use Rattle.nzb_index.specs.Canonical.{IsValidFile, IsValidIndex}
 use Rattle.nzb_index.specs.Markup.{IsTextBytes, is_control, is_message_id, is_white, trimmed}
 use Rattle.nzb_index.specs.Markup as nzb
-use Rattle.nzb_index.specs.Nzb.{segment_count}
 use Rattle.nzb_index.specs.declared.index.FileEntry.{FileEntry}
 use Rattle.nzb_index.specs.declared.index.Index.{Index}
 use Rattle.nzb_index.specs.declared.index.Segment.{Segment}

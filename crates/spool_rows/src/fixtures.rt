@@ -18,7 +18,8 @@ pub(crate) fn bytes_of(alloc: Global, text: &[u8]) -> Result<Bytes, Fail>
     }
 }
 
-/// A spool of the server `open:119`, which asks for no login, and of `login:119`, with the login `me` and `secret`.
+/// A spool of the server `open:119`, which asks for no login, and of `login:119`, with the login `me` and `secret`. The date
+/// of its articles is `now`.
 pub(crate) fn spool_of(alloc: Global, links: &[SpoolLink], pieces: &[u32]) -> Result<Spool, Fail> {
     let mut servers = List::new(alloc);
     servers.push(SpoolServer {
@@ -43,7 +44,7 @@ pub(crate) fn spool_of(alloc: Global, links: &[SpoolLink], pieces: &[u32]) -> Re
         servers,
         links: entries,
         pieces: bounds,
-        date: Bytes::new(alloc),
+        date: bytes_of(alloc, b"now")?,
     };
     match Spool::new(alloc, plan) {
         Ok(spool) => Ok(spool),
@@ -133,3 +134,28 @@ pub(crate) fn says(
 /// An article as it is posted, with its ending dot.
 pub(crate) const ARTICLE: &[u8] =
     b"From: me@host\r\nNewsgroups: alt.test,alt.bin\r\nSubject: one\r\nMessage-ID: <one@host>\r\n\r\nhello\r\n..dot\r\n.\r\n";
+
+/// The second one, in one newsgroup.
+pub(crate) const SECOND: &[u8] =
+    b"From: me@host\r\nNewsgroups: alt.bin\r\nSubject: two\r\nMessage-ID: <two@host>\r\n\r\n.\r\n";
+
+/// The third one, with TABs and control bytes in its head.
+pub(crate) const THIRD: &[u8] =
+    b"Subject: a\tb\x01\x1fc \r\nFrom: you\t<you@host>\r\nNewsgroups: alt.test\r\nMessage-ID: <three@host>\r\n\r\nx\r\n\r\ny\tz\r\n.\r\n";
+
+/// Posts three articles on a new link, the first to both newsgroups.
+pub(crate) fn post_three(alloc: Global, spool: &mut Spool) -> Result<(), Fail> {
+    let link = open(spool, b"open:119")?;
+    send(spool, link, b"POST\r\n")?;
+    send(spool, link, ARTICLE)?;
+    send(spool, link, b"POST\r\n")?;
+    send(spool, link, SECOND)?;
+    send(spool, link, b"POST\r\n")?;
+    let wanted =
+        b"200 ready\r\n340 send\r\n240 posted\r\n340 send\r\n240 posted\r\n340 send\r\n240 posted\r\n";
+    if says(alloc, spool, link, THIRD, wanted)? {
+        Ok(())
+    } else {
+        Err("the articles are posted".into())
+    }
+}

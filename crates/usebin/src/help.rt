@@ -1,7 +1,7 @@
 // The texts of help.
 
 const ABOUT: &str = "\
-usebin makes yEnc articles of files, posts them in Usenet newsgroups, and makes files of articles.
+usebin makes yEnc articles of files, posts them in Usenet newsgroups, finds them there, and makes files of articles.
 
 usage: usebin COMMAND --KEY VALUE ..
 
@@ -10,6 +10,7 @@ commands:
   decode   writes the bytes of a saved body to standard output
   check    reads the index of files in an NZB, and writes what it lists
   post     posts a file through a news server, and writes the NZB of it to standard output
+  index    asks a news server for the overview of a newsgroup, and writes the NZB of its files to standard output
 
 usebin COMMAND --help says what a command takes, usebin --version which version this is.
 
@@ -22,8 +23,8 @@ exit status:
   5  no connection to the server could be opened
   6  the input was read and is refused
   7  there was not enough memory
-  8  the server refused to be sent an article, and its code is told
-  9  the connection was over before an article was sent, and why is told
+  8  the server refused to be sent an article, or to give an overview, and its code is told
+  9  the connection was over before an article was sent or the overview was heard, and why is told
 ";
 
 const ENCODE: &str = "\
@@ -91,6 +92,25 @@ standard output. An article is sent once, whatever becomes of it. Each part that
                         logs in there.
 ";
 
+const INDEX: &str = "\
+usage: usebin index --server HOST:PORT --group GROUP --first A --last B [--patience N] [--login FILE]
+
+Asks a news server for the overview of the articles A to B of GROUP, over one connection, and writes an NZB of the files that
+they are parts of to standard output. The articles of one author whose subjects differ in their last count alone, as in (1/5)
+and (2/5), are the parts of one file. Of two articles with one number the first is kept.
+How many lines of the overview were skipped, since they can't be read or have no count in their subject, goes to standard error
+as a line `skipped N`.
+
+  --server HOST:PORT    the news server
+  --group GROUP         the newsgroup
+  --first A             the first number, 1 to 9999999999999999
+  --last B              the last number, at least A and at most 9999999 more
+  --patience N          after how many quiet receives of 20 milliseconds each the server is given up, 1 to 100000. Without it
+                        1500.
+  --login FILE          a file of lines `HOST:PORT USER PASSWORD`. The line with the server's address, if there is one, says who
+                        logs in there.
+";
+
 const VERSION: &str = "usebin 0.1.0\n";
 
 /// The text that the words ask for in place of a command, if they do.
@@ -109,6 +129,9 @@ pub(crate) fn help_for(words: &[String]) -> Option<&'static str> {
         }
         [command, second, ..] if command.as_str() == "post" && second.as_str() == "--help" => {
             Some(POST)
+        }
+        [command, second, ..] if command.as_str() == "index" && second.as_str() == "--help" => {
+            Some(INDEX)
         }
         _ => None,
     }

@@ -1,28 +1,24 @@
 -- What the end of a post says of the top call's clauses.
 use Rattle.std.proofs.Common.{◌≡◌, ◌≤◌, ◌<◌, ℕ, List, [], ◌∷◌, ◌++◌, Option, Some, None, refl, sym, ap, subst, ◌∙◌, inl, inr, ◌⊎◌, arith, length}
 use Rattle.std.specs.Prelude.{IsSomeAnd, codes}
-use Rattle.std.specs.Fmt.{decimal}
 use Rattle.ub_base.specs.Causes.{Rose}
 use Rattle.ub_base.specs.Input.{file_of}
-use Rattle.nntp_lines.specs.declared.login.Login.{Login}
-use Rattle.nntp_lines.specs.declared.why.Why.{Why}
-use Rattle.yenc_body.specs.Text.{text_lines}
-use Rattle.news_server.specs.Logins.{AreLogins, HaveFirstBroken, HaveLogins, IsFirstBroken}
-use Rattle.news_server.specs.declared.logins.ServerLogin.{ServerLogin}
-use Rattle.news_server.proofs.LoginLaws.{logins_or_broken}
 use Rattle.command_words.specs.CommandLine.{Words}
 use Rattle.command_words.specs.CommandLine.Words.{Asks}
 use Rattle.command_words.specs.CommandLine.Command.{Post}
 use Rattle.command_words.specs.Post.{PostAsked}
 use Rattle.input_files.specs.Reading.{Reading}
-use Rattle.usebin_cli.specs.Post.{FitsAt, FitsPost, IsFileOfLength, IsLoginAt, IsLoginBroken, IsLoginTooLong, IsRefusedFile, IsTooLarge, Linked, PostSays, PostTells, broken_line, large_line, last_line, most_login, posted_text, refused_line, status_of}
-use Rattle.usebin_cli.specs.PostText.{over_line, part_lines}
-use Rattle.usebin_cli.specs.Run.{IsErrorText, IsInGrammar, IsInputLine, IsNote, IsNoteAnd, IsOutsideGrammar, IsOverLimit, IsTextFor, Wrote, line}
+use Rattle.usebin_cli.specs.Linked.{Linked}
+use Rattle.usebin_cli.specs.Post.{FitsAt, FitsPost, IsRefusedFile, IsTooLarge, PostSays, PostTells, broken_line, large_line, last_line, posted_text, refused_line, status_of}
+use Rattle.usebin_cli.specs.PostText.{part_lines}
+use Rattle.usebin_cli.specs.Run.{IsErrorText, IsInGrammar, IsOutsideGrammar, IsOverLimit, Wrote}
 use Rattle.usebin_cli.specs.Writing.{Written, Got, WroteWhole, WroteFront}
 use Rattle.usebin_cli.specs.declared.encode.Limit.{Limit}
 use Rattle.usebin_cli.specs.declared.encode.Limit.TheVariants.{File, Part, Segments}
 use Rattle.usebin_cli.specs.declared.post.PostEnd.{PostEnd}
 use Rattle.usebin_cli.specs.declared.post.PostEnd.TheVariants.{Posted, NotAll, Memory, InputFault, Short, Limit as Refuses, LoginLimit, LoginBroken, NoLink, Refused, Over, OutputFault}
+use Rattle.usebin_cli.proofs.ErrorTexts.{in_part_text, input_fault_text, input_refused_text, memory_text, no_link_text, over_text, refusal_text, short_line}
+use Rattle.usebin_cli.proofs.LoginLemmas.{not_broken, not_long, same_file}
 use Rattle.usebin_cli.proofs.TopLemmas.{done_text, fault_text}
 
 -- ---- the output
@@ -85,9 +81,6 @@ post_refused words asked files moment r t w e status is (end, status_is, says) s
 
 -- ---- what is within the limits and in the grammar
 
-same_file : (path : List ℕ) (files : List (List ℕ × List ℕ)) (one two : List ℕ) → file_of path files ≡ Some one → file_of path files ≡ Some two → one ≡ two
-same_file path files one two first second = cc
-
 -- a file that fits isn't too large
 not_large : (asked : PostAsked) (bytes : List ℕ) (current : Option ℕ) (limit : Limit) → FitsPost asked (Some (length bytes)) → current ≡ Some (length bytes) → IsTooLarge asked current limit → ⊥
 not_large asked bytes current File fits is large = let more = rw is at large in omega (arith, fits.0, more)
@@ -99,32 +92,6 @@ not_refused asked files current limit (bytes, there, fits) refused =
     let same : refused.told.0 ≡ bytes = same_file asked.path files refused.told.0 bytes refused.told.1 there in
     not_large asked bytes current limit fits (rw same at refused.told.2) refused.large
 
--- a login file that was read isn't too long
-not_long : (server : List ℕ) (path : List ℕ) (named : Option (List ℕ)) (files : List (List ℕ × List ℕ)) (login : Option Login) (current : Option ℕ) → named ≡ Some path → IsLoginAt server named (Some files) login →
-    IsSomeAnd current (λ size. most_login < size) → IsFileOfLength path (Some files) current → ⊥
-not_long server path None files login current is at_server long told = absurd cc
-not_long server path (Some other) files login current is (text, file, logins) long told =
-    let path_is : other ≡ path = cc in
-    let there = rw path_is at file.told in
-    let same : told.0 ≡ text = same_file path files told.0 text told.1 there in
-    let more = rw told.2 at long in
-    let len : length told.0 ≡ length text = ap (λ (l : List ℕ). length l) same in
-    omega (arith, more, file.short, len)
-
--- and has no line that breaks a rule
-has_both : (lines : List (List ℕ)) (logins : List ServerLogin) (number : ℕ) → AreLogins lines logins → IsFirstBroken lines number → HaveLogins lines ⊎ HaveFirstBroken lines → ⊥
-has_both lines logins number are broken (inl have) = have.2 number broken
-has_both lines logins number are broken (inr have) = have.3 logins are
-
-not_broken : (server : List ℕ) (path : List ℕ) (named : Option (List ℕ)) (files : List (List ℕ × List ℕ)) (login : Option Login) (text : List ℕ) (number : ℕ) → named ≡ Some path → IsLoginAt server named (Some files) login →
-    file_of path files ≡ Some text → IsFirstBroken (text_lines text) number → ⊥
-not_broken server path None files login text number is at_server there broken = absurd cc
-not_broken server path (Some other) files login text number is (read, file, logins) there broken =
-    let path_is : other ≡ path = cc in
-    let found = rw path_is at file.told in
-    let same : text ≡ read = same_file path files text read there found in
-    has_both (text_lines read) logins.0 number logins.1 (subst (λ (l : List ℕ). IsFirstBroken (text_lines l) number) same broken) (logins_or_broken (text_lines read))
-
 -- then status 6 comes only where a read gave no byte
 in_grammar_at_6 : (asked : PostAsked) (files : List (List ℕ × List ℕ)) (moment : ℕ) (r : Reading) (t : Linked) (w e : Written) (end : PostEnd) → IsInGrammar (Asks (Post asked)) (Some files) r.current →
     PostSays asked (Some files) moment r t w e end → status_of end ≡ 6 → Rose r.shorts_before r.shorts_now
@@ -134,8 +101,8 @@ in_grammar_at_6 asked files moment r t w e Memory inside says = λ is. absurd (o
 in_grammar_at_6 asked files moment r t w e InputFault inside says = λ is. absurd (omega (arith, is))
 in_grammar_at_6 asked files moment r t w e (Short place) inside says = λ is. says.0.0.shorts
 in_grammar_at_6 asked files moment r t w e (Refuses limit) inside says = λ is. absurd (not_refused asked files r.current limit inside.2 says.0.1)
-in_grammar_at_6 asked files moment r t w e LoginLimit inside says = λ is. absurd (not_long asked.server says.0.1.path asked.login files inside.0 r.current says.0.1.named inside.1 says.0.1.long says.0.1.told)
-in_grammar_at_6 asked files moment r t w e (LoginBroken number) inside says = λ is. absurd (not_broken asked.server says.0.2.path asked.login files inside.0 says.0.2.text number says.0.2.named inside.1 says.0.2.file.told says.0.2.broken)
+in_grammar_at_6 asked files moment r t w e LoginLimit inside says = λ is. absurd (not_long asked.server says.0.1.path asked.login files inside.0 r.current says.0.1.is_named inside.1 says.0.1.long says.0.1.told)
+in_grammar_at_6 asked files moment r t w e (LoginBroken number) inside says = λ is. absurd (not_broken asked.server says.0.2.path asked.login files inside.0 says.0.2.text number says.0.2.is_named inside.1 says.0.2.file.told says.0.2.broken)
 in_grammar_at_6 asked files moment r t w e NoLink inside says = λ is. absurd (omega (arith, is))
 in_grammar_at_6 asked files moment r t w e (Refused code told) inside says = λ is. absurd (omega (arith, is))
 in_grammar_at_6 asked files moment r t w e (Over reason) inside says = λ is. absurd (omega (arith, is))
@@ -150,107 +117,6 @@ pub post_in_grammar : (words : Words) (asked : PostAsked) (files : Option (List 
 post_in_grammar words asked files moment r t w e status is (end, status_is, says) inside six = by_files asked files moment r t w e end (rw is at inside) says (sym status_is ∙ six)
 
 -- ---- standard error
-
-in_part_text : (words : Words) (files : Option (List (List ℕ × List ℕ))) (r : Reading) (text : List ℕ) → IsNote words files r.current text → IsErrorText words files r 1 text
-in_part_text words files r text says = record {
-  done = λ e. absurd (omega (arith, e));
-  in_part = λ e. says;
-  words_refused = λ e. absurd (omega (arith, e));
-  input_fault = λ e. absurd (omega (arith, e));
-  output_fault = λ e. absurd (omega (arith, e));
-  no_link = λ e. absurd (omega (arith, e));
-  input_refused = λ e. absurd (omega (arith, e));
-  memory = λ e. absurd (omega (arith, e));
-  refused = λ e. absurd (omega (arith, e));
-  over = λ e. absurd (omega (arith, e));
-}
-
-input_fault_text : (words : Words) (files : Option (List (List ℕ × List ℕ))) (r : Reading) (text : List ℕ) → text ≡ line (codes "usebin: input fault") → IsErrorText words files r 3 text
-input_fault_text words files r text says = record {
-  done = λ e. absurd (omega (arith, e));
-  in_part = λ e. absurd (omega (arith, e));
-  words_refused = λ e. absurd (omega (arith, e));
-  input_fault = λ e. says;
-  output_fault = λ e. absurd (omega (arith, e));
-  no_link = λ e. absurd (omega (arith, e));
-  input_refused = λ e. absurd (omega (arith, e));
-  memory = λ e. absurd (omega (arith, e));
-  refused = λ e. absurd (omega (arith, e));
-  over = λ e. absurd (omega (arith, e));
-}
-
-no_link_text : (words : Words) (files : Option (List (List ℕ × List ℕ))) (r : Reading) (text : List ℕ) → text ≡ line (codes "usebin: no link") → IsErrorText words files r 5 text
-no_link_text words files r text says = record {
-  done = λ e. absurd (omega (arith, e));
-  in_part = λ e. absurd (omega (arith, e));
-  words_refused = λ e. absurd (omega (arith, e));
-  input_fault = λ e. absurd (omega (arith, e));
-  output_fault = λ e. absurd (omega (arith, e));
-  no_link = λ e. says;
-  input_refused = λ e. absurd (omega (arith, e));
-  memory = λ e. absurd (omega (arith, e));
-  refused = λ e. absurd (omega (arith, e));
-  over = λ e. absurd (omega (arith, e));
-}
-
-input_refused_text : (words : Words) (files : Option (List (List ℕ × List ℕ))) (r : Reading) (text : List ℕ) → IsInputLine words files r text → IsErrorText words files r 6 text
-input_refused_text words files r text says = record {
-  done = λ e. absurd (omega (arith, e));
-  in_part = λ e. absurd (omega (arith, e));
-  words_refused = λ e. absurd (omega (arith, e));
-  input_fault = λ e. absurd (omega (arith, e));
-  output_fault = λ e. absurd (omega (arith, e));
-  no_link = λ e. absurd (omega (arith, e));
-  input_refused = λ e. says;
-  memory = λ e. absurd (omega (arith, e));
-  refused = λ e. absurd (omega (arith, e));
-  over = λ e. absurd (omega (arith, e));
-}
-
-memory_text : (words : Words) (files : Option (List (List ℕ × List ℕ))) (r : Reading) (text : List ℕ) → text ≡ line (codes "usebin: no memory") → IsErrorText words files r 7 text
-memory_text words files r text says = record {
-  done = λ e. absurd (omega (arith, e));
-  in_part = λ e. absurd (omega (arith, e));
-  words_refused = λ e. absurd (omega (arith, e));
-  input_fault = λ e. absurd (omega (arith, e));
-  output_fault = λ e. absurd (omega (arith, e));
-  no_link = λ e. absurd (omega (arith, e));
-  input_refused = λ e. absurd (omega (arith, e));
-  memory = λ e. says;
-  refused = λ e. absurd (omega (arith, e));
-  over = λ e. absurd (omega (arith, e));
-}
-
-refusal_text : (words : Words) (files : Option (List (List ℕ × List ℕ))) (r : Reading) (text : List ℕ) → ((code : ℕ) × IsNoteAnd words files r.current (refused_line code) text) → IsErrorText words files r 8 text
-refusal_text words files r text says = record {
-  done = λ e. absurd (omega (arith, e));
-  in_part = λ e. absurd (omega (arith, e));
-  words_refused = λ e. absurd (omega (arith, e));
-  input_fault = λ e. absurd (omega (arith, e));
-  output_fault = λ e. absurd (omega (arith, e));
-  no_link = λ e. absurd (omega (arith, e));
-  input_refused = λ e. absurd (omega (arith, e));
-  memory = λ e. absurd (omega (arith, e));
-  refused = λ e. says;
-  over = λ e. absurd (omega (arith, e));
-}
-
-over_text : (words : Words) (files : Option (List (List ℕ × List ℕ))) (r : Reading) (text : List ℕ) → ((reason : Why) × (text ≡ over_line reason)) → IsErrorText words files r 9 text
-over_text words files r text says = record {
-  done = λ e. absurd (omega (arith, e));
-  in_part = λ e. absurd (omega (arith, e));
-  words_refused = λ e. absurd (omega (arith, e));
-  input_fault = λ e. absurd (omega (arith, e));
-  output_fault = λ e. absurd (omega (arith, e));
-  no_link = λ e. absurd (omega (arith, e));
-  input_refused = λ e. absurd (omega (arith, e));
-  memory = λ e. absurd (omega (arith, e));
-  refused = λ e. absurd (omega (arith, e));
-  over = λ e. says;
-}
-
-abbrev pub short_line : ℕ → List ℕ
-short_line place = codes "usebin: short " ++ decimal place ++ 10 ∷ []
 
 -- each end has its text
 said : (asked : PostAsked) (files : Option (List (List ℕ × List ℕ))) (moment : ℕ) (r : Reading) (t : Linked) (w e : Written) (end : PostEnd) → PostSays asked files moment r t w e end → (text : List ℕ) × IsErrorText (Asks (Post asked)) files r (status_of end) text × Got text e

@@ -1,21 +1,21 @@
 -- A post, step by step: the lines of its parts, what was told of it, and the line of its end.
 use Rattle.std.proofs.Common.{◌≡◌, ◌<◌, ℕ, suc, zero, ◌+◌, List, [], ◌∷◌, ◌++◌, Bool, true, false, Option, Some, None, refl, sym, ap, ◌∙◌, inl, inr, arith, length, take, get_or, append-nil, append_assoc}
-use Rattle.ub_base.specs.Sink.{told_and}
 use Rattle.command_words.specs.Post.{PostAsked}
 use Rattle.input_files.specs.Reading.{Reading}
 use Rattle.poster.specs.declared.index.PartEnd.{PartEnd}
 use Rattle.poster.specs.declared.index.PartEnd.TheVariants as part
 use Rattle.poster.specs.declared.index.Sent.{Sent}
 use Rattle.poster.specs.Session.{Way, whole, refused, stopped}
-use Rattle.usebin_cli.specs.Post.{FitsPost, HasAnySession, HasSession, IsPlanned, IsPosted, Linked, PostEnds, PostFails, PostSays, SaysEnd, TellsPosted, Told, ToldParts, Went, last_line, start_of}
+use Rattle.usebin_cli.specs.Linked.{Linked}
+use Rattle.usebin_cli.specs.Post.{FitsPost, HasAnySession, HasSession, IsPlanned, IsPosted, PostEnds, PostFails, PostSays, SaysEnd, TellsPosted, ToldParts, Went, last_line, start_of}
 use Rattle.usebin_cli.specs.PostText.{part_line, part_lines}
-use Rattle.usebin_cli.specs.Writing.{Written, Got, IsUntouched, WroteWhole, WroteFront}
+use Rattle.usebin_cli.specs.Writing.{Written, Got, IsUntouched, WroteWhole, WroteFront, Told}
 use Rattle.usebin_cli.specs.declared.post.PostEnd.{PostEnd}
 use Rattle.usebin_cli.specs.declared.post.PostEnd.TheVariants.{Posted, NotAll, Memory, InputFault, Short, Limit as Refuses, LoginLimit, LoginBroken, NoLink, Refused, Over, OutputFault}
 use Rattle.usebin_cli.specs.declared.post.PlannedFile.{PlannedFile}
 use Rattle.usebin_cli.specs.declared.post.PostedFile.{PostedFile}
+use Rattle.usebin_cli.proofs.SaidSteps.{between, front_more, nothing_then, then_nothing, told_got}
 use Rattle.usebin_cli.proofs.TopLemmas.{got_both}
-use Rattle.usebin_cli.proofs.WritingLemmas.{front_of_longer}
 
 -- ---- the lines of parts
 
@@ -64,29 +64,6 @@ posted_ends asked files moment r t w e posted (Over reason) is tells = absurd te
 posted_ends asked files moment r t w e posted (OutputFault told) is tells = (posted, record { is_posted = is; permitted = tells.0; written = tells.1 }, tells.2)
 
 -- ---- the line of its end
-
-told_got : (told : Bool) (text : List ℕ) (e : Written) → Told told text e → Got text e
-told_got true text e t = inl t
-told_got false text e t = inr t
-
--- what is seen of a sink from one moment to another
-abbrev pub between : (f0 f1 : ℕ) (t0 t1 : Option (List ℕ)) → Written
-between f0 f1 t0 t1 = record { faults_before = f0; faults_now = f1; told_before = t0; told_now = t1 }
-
--- a text, and then nothing
-then_nothing : (text : List ℕ) (f0 f1 f2 : ℕ) (t0 t1 t2 : Option (List ℕ)) → Got text (between f0 f1 t0 t1) → IsUntouched (between f1 f2 t1 t2) → Got text (between f0 f2 t0 t2)
-then_nothing text f0 f1 f2 t0 t1 t2 (inl w) none = inl (record { faults = none.faults ∙ w.faults; told = none.told ∙ w.told })
-then_nothing text f0 f1 f2 t0 t1 t2 (inr w) none = inr (record { faults = rw none.faults w.faults; front = (w.front.0, none.told ∙ w.front.1) })
-
--- nothing, and then a text
-nothing_then : (text : List ℕ) (f0 f1 f2 : ℕ) (t0 t1 t2 : Option (List ℕ)) → IsUntouched (between f0 f1 t0 t1) → Got text (between f1 f2 t1 t2) → Got text (between f0 f2 t0 t2)
-nothing_then text f0 f1 f2 t0 t1 t2 none (inl w) = inl (record { faults = w.faults ∙ none.faults; told = w.told ∙ ap (λ t. told_and t text) none.told })
-nothing_then text f0 f1 f2 t0 t1 t2 none (inr w) = inr (record { faults = rw none.faults at w.faults; front = (w.front.0, rw none.told at w.front.1) })
-
--- a front of a text is a front of a longer one
-front_more : (first second : List ℕ) (f0 f1 f2 : ℕ) (t0 t1 t2 : Option (List ℕ)) → WroteFront first (between f0 f1 t0 t1) → IsUntouched (between f1 f2 t1 t2) → Got (first ++ second) (between f0 f2 t0 t2)
-front_more first second f0 f1 f2 t0 t1 t2 w none =
-    inr (record { faults = rw none.faults w.faults; front = front_of_longer t0 t2 first second (first ++ second) (w.front.0, none.told ∙ w.front.1) refl })
 
 -- the lines of parts, and the line of the end behind them, unless a write failed before
 told_then : (told : Bool) (first : List ℕ) (end : PostEnd) (f0 f1 f2 : ℕ) (t0 t1 t2 : Option (List ℕ)) → Told told first (between f0 f1 t0 t1) →

@@ -2,6 +2,9 @@ pub mod Body
 pub mod Check
 pub mod Decode
 pub mod Encode
+pub mod Index
+pub mod Linked
+pub mod Login
 pub mod Post
 pub mod PostText
 pub mod Printed

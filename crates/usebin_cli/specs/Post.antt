@@ -1,7 +1,6 @@
 -- How `post` ends.
 use Rattle.std.specs.Prelude.{◌≡◌, ◌≢◌, ◌≤◌, ◌<◌, ◌⊎◌, ℕ, Bool, true, false, List, [], ◌∷◌, ◌++◌, length, Option, Some, None, Result, Ok, Err, All, IfSome, IsSomeAnd, codes, ⊤}
 use Rattle.std.specs.Fmt.{decimal}
-use Rattle.ub_base.specs.Causes.{Rose, BlamesNamed}
 use Rattle.ub_base.specs.Input.{file_of}
 use Rattle.ub_base.specs.declared.blame.Blame.{Blame}
 use Rattle.ub_base.specs.declared.blame.Blame.TheVariants as blames
@@ -9,11 +8,8 @@ use Rattle.ub_base.specs.declared.links.LinkEvent.{LinkEvent}
 use Rattle.nntp_lines.specs.declared.login.Login.{Login}
 use Rattle.nntp_lines.specs.declared.why.Why.{Why}
 use Rattle.yenc_body.specs.Parts.{most_bytes, most_parts, parts_of}
-use Rattle.yenc_body.specs.Text.{text_lines}
 use Rattle.nzb_index.specs.Canonical.{nzb_text}
 use Rattle.link_dialog.specs.Talk.{Start}
-use Rattle.news_server.specs.Logins.{AreLogins, FindsLogin, IsFirstBroken}
-use Rattle.news_server.specs.declared.logins.ServerLogin.{ServerLogin}
 use Rattle.poster.specs.Index.{AreOutcomes, index_of}
 use Rattle.poster.specs.Plan.{IsPlanOf}
 use Rattle.poster.specs.Session.{HasSent, Session, WasOver, WasRefused, Way}
@@ -23,8 +19,10 @@ use Rattle.poster.specs.declared.parts.Plan.{Plan}
 use Rattle.poster.specs.declared.settings.Settings.{Settings}
 use Rattle.command_words.specs.Post.{PostAsked}
 use Rattle.input_files.specs.Reading.{Reading, IsFaultless, IsShortAt, HasFailed, IsBelow, IsFileAt}
+use Rattle.usebin_cli.specs.Linked.{Linked, FailedToOpen, OpenedNone}
+use Rattle.usebin_cli.specs.Login.{IsFileOfLength, IsLoginAt, IsLoginBroken, IsLoginTooLong}
 use Rattle.usebin_cli.specs.PostText.{over_line, part_lines}
-use Rattle.usebin_cli.specs.Writing.{Written, IsUntouched, WroteWhole, WroteFront, Got}
+use Rattle.usebin_cli.specs.Writing.{Written, IsUntouched, WroteWhole, WroteFront, Got, Told}
 use Rattle.usebin_cli.specs.declared.encode.Limit.{Limit}
 use Rattle.usebin_cli.specs.declared.encode.Limit.TheVariants.{File, Part, Segments}
 use Rattle.usebin_cli.specs.declared.post.PlannedFile.{PlannedFile}
@@ -33,10 +31,6 @@ use Rattle.usebin_cli.specs.declared.post.PostEnd.{PostEnd}
 use Rattle.usebin_cli.specs.declared.post.PostEnd.TheVariants.{Posted, NotAll, Memory, InputFault, Short, Limit as Refuses, LoginLimit, LoginBroken, NoLink, Refused, Over, OutputFault}
 
 -- ---- what is posted
-
--- how many bytes a login file may have
-abbrev pub most_login : ℕ
-most_login = 65536
 
 -- what the words ask for, with a login or without
 abbrev pub settings_of : PostAsked → Option Login → Settings
@@ -54,58 +48,10 @@ settings_of asked login = record {
   patience = asked.patience;
 }
 
--- a text is that of the login file at a path, where the files are told
-pub record IsLoginFile (path : List ℕ) (files : Option (List (List ℕ × List ℕ))) (text : List ℕ) : Type 0 where
-  pub told : IsFileAt path files text
-  pub short : length text ≤ most_login
-
--- the login at a server: none where no login file is named, and else the one that the file has for it, if it has one
-abbrev pub IsLoginAt : List ℕ → Option (List ℕ) → Option (List (List ℕ × List ℕ)) → Option Login → Type 0
-IsLoginAt server None files login = login ≡ None
-IsLoginAt server (Some path) files login =
-    (text : List ℕ) × IsLoginFile path files text × ((logins : List ServerLogin) × AreLogins (text_lines text) logins × FindsLogin logins server login)
-
 -- what the input tells of the opened file at a path, which has this length
 abbrev pub IsContentAt : List ℕ → Option (List (List ℕ × List ℕ)) → ℕ → Option (List ℕ) → Type 0
 IsContentAt path None size content = content ≡ None
 IsContentAt path (Some files) size content = (bytes : List ℕ) × (file_of path files ≡ Some bytes) × (content ≡ Some bytes) × (length bytes ≡ size)
-
--- a length is that of the file at a path, where the files are told
-abbrev pub IsFileOfLength : List ℕ → Option (List (List ℕ × List ℕ)) → Option ℕ → Type 0
-IsFileOfLength path None current = ⊤
-IsFileOfLength path (Some files) current = (bytes : List ℕ) × (file_of path files ≡ Some bytes) × (current ≡ Some (length bytes))
-
--- ---- what is told of links
-
--- the trace, the count of faults and the last failed call of links, before and after
-pub record Linked : Type 0 where
-  pub trace_before : Option (List LinkEvent)
-  pub trace_now : Option (List LinkEvent)
-  pub faults_before : ℕ
-  pub faults_now : ℕ
-  pub blame_before : Option (Option Blame)
-  pub blame_now : Option (Option Blame)
-
--- the same, of links with these members
-abbrev pub linked : {L : Type 0} → (L → Option (List LinkEvent)) → (L → ℕ) → (L → Option (Option Blame)) → L → L → Linked
-linked trace faults blame before now = record {
-  trace_before = trace before;
-  trace_now = trace now;
-  faults_before = faults before;
-  faults_now = faults now;
-  blame_before = blame before;
-  blame_now = blame now;
-}
-
--- no link was opened
-abbrev pub OpenedNone : Linked → Type 0
-OpenedNone t = t.trace_now ≡ t.trace_before
-
--- the opening of a link to this address failed
-pub record FailedToOpen (address : List ℕ) (t : Linked) : Type 0 where
-  pub none : OpenedNone t
-  pub faults : Rose t.faults_before t.faults_now
-  pub blame : BlamesNamed {T = ℕ} {E = ℕ} t.blame_before t.blame_now (blames.Open address) (Err 0)
 
 -- what a session begins with
 abbrev pub start_of : Settings → Linked → Start
@@ -179,21 +125,6 @@ pub record IsRefusedFile (asked : PostAsked) (files : Option (List (List ℕ × 
   pub large : IsTooLarge asked current limit
   pub told : IsFileOfLength asked.path files current
 
--- a login file was named, which has too many bytes
-pub record IsLoginTooLong (asked : PostAsked) (files : Option (List (List ℕ × List ℕ))) (current : Option ℕ) : Type 0 where
-  pub path : List ℕ
-  pub named : asked.login ≡ Some path
-  pub long : IsSomeAnd current (λ size. most_login < size)
-  pub told : IsFileOfLength path files current
-
--- a login file was named, and its line of this number is the first that breaks a rule
-pub record IsLoginBroken (asked : PostAsked) (files : Option (List (List ℕ × List ℕ))) (number : ℕ) : Type 0 where
-  pub path : List ℕ
-  pub named : asked.login ≡ Some path
-  pub text : List ℕ
-  pub file : IsLoginFile path files text
-  pub broken : IsFirstBroken (text_lines text) number
-
 -- ---- how it ends
 
 -- the planned file's session was over before a byte of any article went out
@@ -209,18 +140,13 @@ PostFails asked files r t Memory = IsFaultless r × FitsPost asked r.current × 
 PostFails asked files r t InputFault = HasFailed (IsPostCall asked) r × FitsPost asked r.current × HasAnySession asked files r.current t
 PostFails asked files r t (Short place) = IsShortAt place r × FitsPost asked r.current × IsBelow r.current place × HasAnySession asked files r.current t
 PostFails asked files r t (Refuses limit) = IsFaultless r × IsRefusedFile asked files r.current limit × OpenedNone t
-PostFails asked files r t LoginLimit = IsFaultless r × IsLoginTooLong asked files r.current × OpenedNone t
-PostFails asked files r t (LoginBroken number) = IsFaultless r × FitsPost asked r.current × IsLoginBroken asked files number × OpenedNone t
+PostFails asked files r t LoginLimit = IsFaultless r × IsLoginTooLong asked.login files r.current × OpenedNone t
+PostFails asked files r t (LoginBroken number) = IsFaultless r × FitsPost asked r.current × IsLoginBroken asked.login files number × OpenedNone t
 PostFails asked files r t NoLink = IsFaultless r × FitsPost asked r.current × FailedToOpen asked.server t
 PostFails asked files r t (Over reason) = IsFaultless r × HasBeenOver asked files r.current t reason
 PostFails asked files r t other = ⊥
 
--- a text was written whole, or only a front of it before a failed write
-abbrev pub Told : Bool → List ℕ → Written → Type 0
-Told true text e = WroteWhole text e
-Told false text e = WroteFront text e
-
--- the same of the lines of the parts that aren't posted
+-- the lines of the parts that aren't posted were written whole, or a front of them
 abbrev pub ToldParts : Bool → List Sent → Written → Type 0
 ToldParts told sent e = Told told (part_lines 1 sent) e
 
@@ -327,8 +253,3 @@ TellsPosted posted moment w e (NotAll told) = (posted.refused ≡ None) × Wrote
 TellsPosted posted moment w e (OutputFault told) = (posted.refused ≡ None) × WroteFront (posted_text posted moment) w × ToldParts told posted.sent e
 TellsPosted posted moment w e (Refused code told) = (posted.refused ≡ Some code) × IsUntouched w × ToldParts told posted.sent e
 TellsPosted posted moment w e other = ⊥
-
--- the text of a login file was read, or the run ends so
-abbrev pub ReadsLoginFile : List ℕ → Option (List (List ℕ × List ℕ)) → Reading → Result (List ℕ) PostEnd → Type 0
-ReadsLoginFile path files r (Ok text) = IsFaultless r × (r.blame_now ≡ r.blame_before) × IsLoginFile path files text × (r.current ≡ Some (length text))
-ReadsLoginFile path files r (Err end) = (asked : PostAsked) (t : Linked) → asked.login ≡ Some path → OpenedNone t → PostFails asked files r t end

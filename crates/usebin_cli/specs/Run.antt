@@ -1,18 +1,24 @@
 -- What a run of the top call says of the words, the input and the outputs.
-use Rattle.std.specs.Prelude.{◌≡◌, ◌⊎◌, ℕ, List, [], ◌∷◌, ◌++◌, Option, Some, codes, ⊤}
+use Rattle.std.specs.Prelude.{◌≡◌, ◌⊎◌, ℕ, List, [], ◌∷◌, ◌++◌, Option, Some, None, codes, ⊤}
 use Rattle.std.specs.Fmt.{decimal}
 use Rattle.ub_base.specs.Causes.{Rose}
 use Rattle.command_words.specs.CommandLine.{Words}
 use Rattle.command_words.specs.CommandLine.Words.{Asks, Refused}
-use Rattle.command_words.specs.CommandLine.Command.{Check, Decode, Encode, Post}
+use Rattle.command_words.specs.CommandLine.Command.{Check, Decode, Encode, Index as AsksIndex, Post}
 use Rattle.yenc_body.specs.declared.part.Part.{Part as BodyPart}
 use Rattle.yenc_body.specs.declared.fault.Fault.{Fault}
 use Rattle.nzb_index.specs.NzbReading.{Refusal}
 use Rattle.nzb_index.specs.declared.index.Index.{Index}
-use Rattle.usebin_cli.specs.Check.{IsListed, IsNoIndex, counts_of, counts_text, refusal_line}
+use Rattle.nzb_index.specs.Canonical.{nzb_text}
+use Rattle.nzb_index.specs.declared.error.NzbLimit.{NzbLimit}
+use Rattle.overview_index.specs.declared.session.Indexed.{Indexed}
+use Rattle.usebin_cli.specs.Check.{IsListed, IsNoIndex, counts_of, counts_text, nzb_limit_line, refusal_line}
 use Rattle.usebin_cli.specs.Decode.{IsDecoded, IsNoBody, IsNoReply}
 use Rattle.usebin_cli.specs.Encode.{IsAskedCall, IsEncoded, IsInPart, IsOver}
-use Rattle.usebin_cli.specs.Post.{Linked, FitsAt, IsLoginAt, IsLoginBroken, IsLoginTooLong, IsPostCall, IsTooLarge, PostTells, broken_line, large_line, last_line, posted_text, refused_line}
+use Rattle.usebin_cli.specs.Login.{IsLoginAt, IsLoginBroken, IsLoginCall, IsLoginTooLong}
+use Rattle.usebin_cli.specs.Index.{IndexTells, skipped_line}
+use Rattle.usebin_cli.specs.Linked.{Linked}
+use Rattle.usebin_cli.specs.Post.{FitsAt, IsPostCall, IsTooLarge, PostTells, broken_line, large_line, last_line, posted_text, refused_line}
 use Rattle.usebin_cli.specs.PostText.{over_line, part_lines}
 use Rattle.usebin_cli.specs.Printed.{fault_line, range_line}
 use Rattle.usebin_cli.specs.declared.post.PostedFile.{PostedFile}
@@ -33,6 +39,7 @@ IsTextFor (Refused number) files r text = ⊥
 IsTextFor (Asks (Encode asked)) files r text = IsEncoded asked files r.current text
 IsTextFor (Asks (Decode asked)) files r text = (p : BodyPart) × IsDecoded asked files r.current p × (text ≡ p.content)
 IsTextFor (Asks (Post asked)) files r text = (posted : PostedFile) × (moment : ℕ) × (text ≡ posted_text posted moment)
+IsTextFor (Asks (AsksIndex asked)) files r text = (indexed : Indexed) × (text ≡ nzb_text indexed.index)
 IsTextFor (Asks (Check path)) files r text = (index : Index) × IsListed path files r.current index × (text ≡ counts_text (counts_of index))
 
 -- the text that the words ask for was written so
@@ -46,6 +53,7 @@ InputFailed (Refused number) r = ⊥
 InputFailed (Asks (Encode asked)) r = HasFailed (IsAskedCall asked r.current) r
 InputFailed (Asks (Decode asked)) r = HasFailed (IsReadOrOpen asked.path) r
 InputFailed (Asks (Post asked)) r = HasFailed (IsPostCall asked) r
+InputFailed (Asks (AsksIndex asked)) r = HasFailed (IsLoginCall asked.login) r
 InputFailed (Asks (Check path)) r = HasFailed (IsReadOrOpen path) r
 
 -- a text with the end of its line
@@ -76,6 +84,7 @@ IsLimitLine (Refused number) current text = ⊥
 IsLimitLine (Asks (Encode asked)) current text = (limit : Limit) × IsOver asked current limit × (text ≡ limit_line limit)
 IsLimitLine (Asks (Decode asked)) current text = Exceeds most_text current × (text ≡ line (codes "usebin: limit text 67108864"))
 IsLimitLine (Asks (Post asked)) current text = (limit : Limit) × IsTooLarge asked current limit × (text ≡ large_line limit)
+IsLimitLine (Asks (AsksIndex asked)) current text = ⊥
 IsLimitLine (Asks (Check path)) current text = Exceeds most_text current × (text ≡ line (codes "usebin: limit text 67108864"))
 
 -- the words ask for what goes past a limit of a file of this length
@@ -88,16 +97,20 @@ IsAskedPlace (Refused number) current place = ⊥
 IsAskedPlace (Asks (Encode asked)) current place = IsInPart asked current place
 IsAskedPlace (Asks (Decode asked)) current place = IsBelow current place
 IsAskedPlace (Asks (Post asked)) current place = IsBelow current place
+IsAskedPlace (Asks (AsksIndex asked)) current place = IsBelow current place
 IsAskedPlace (Asks (Check path)) current place = IsBelow current place
 
 -- the line for a text that is not in the grammar of what the words ask for: one that is to be decoded and has no body or is
 -- no reply with one, one that is to be checked and is no NZB, or passes a limit of its files or segments, or a login file that
--- is too long or has a line that breaks a rule
+-- is too long or has a line that breaks a rule; and the line for an index that would pass a limit, of which `IndexTells` says where
 abbrev pub IsFaultLine : Words → Option (List (List ℕ × List ℕ)) → Option ℕ → List ℕ → Type 0
 IsFaultLine (Asks (Decode asked)) files current text =
     ((f : Fault) × IsNoBody asked files current f × (text ≡ fault_line f)) ⊎ ((f : ReplyFault) × IsNoReply asked files current f × (text ≡ reply_line f))
 IsFaultLine (Asks (Post asked)) files current text =
-    (IsLoginTooLong asked files current × (text ≡ last_line LoginLimit)) ⊎ ((number : ℕ) × IsLoginBroken asked files number × (text ≡ broken_line number))
+    (IsLoginTooLong asked.login files current × (text ≡ last_line LoginLimit)) ⊎ ((number : ℕ) × IsLoginBroken asked.login files number × (text ≡ broken_line number))
+IsFaultLine (Asks (AsksIndex asked)) files current text =
+    (IsLoginTooLong asked.login files current × (text ≡ last_line LoginLimit))
+    ⊎ (((number : ℕ) × IsLoginBroken asked.login files number × (text ≡ broken_line number)) ⊎ ((limit : NzbLimit) × (text ≡ nzb_limit_line limit)))
 IsFaultLine (Asks (Check path)) files current text = (refusal : Refusal) × IsNoIndex path files current refusal × (text ≡ refusal_line refusal)
 IsFaultLine other files current text = ⊥
 
@@ -120,16 +133,22 @@ IsInputLine words files r text =
     (Rose r.shorts_before r.shorts_now × IsAskedPlace words r.current r.short_place × (text ≡ codes "usebin: short " ++ decimal r.short_place ++ 10 ∷ []))
     ⊎ (IsLimitLine words r.current text ⊎ IsFaultLine words files r.current text)
 
--- what is told once the text for the output is made, and before it is written: of a decoded part its range, and of a posted
--- file the parts that weren't posted
+-- what is told once the text for the output is made, and before it is written: of a decoded part its range, of a posted file
+-- the parts that weren't posted, and of an overview how many of its lines were skipped
 abbrev pub IsNote : Words → Option (List (List ℕ × List ℕ)) → Option ℕ → List ℕ → Type 0
 IsNote (Asks (Decode asked)) files current note = (p : BodyPart) × IsDecoded asked files current p × (note ≡ range_line p)
 IsNote (Asks (Post asked)) files current note = (sent : List Sent) × (note ≡ part_lines 1 sent)
+IsNote (Asks (AsksIndex asked)) files current note = (skipped : ℕ) × (note ≡ skipped_line skipped)
 IsNote other files current note = note ≡ []
 
 -- such a note and then a line
 abbrev pub IsNoteAnd : Words → Option (List (List ℕ × List ℕ)) → Option ℕ → List ℕ → List ℕ → Type 0
 IsNoteAnd words files current last text = (note : List ℕ) × IsNote words files current note × (text ≡ note ++ last)
+
+-- the line of a refusal: behind the lines of parts where there are such, and else alone
+abbrev pub IsRefusalText : Words → Option (List (List ℕ × List ℕ)) → Option ℕ → List ℕ → Type 0
+IsRefusalText (Asks (AsksIndex asked)) files current text = (code : ℕ) × (text ≡ refused_line code)
+IsRefusalText other files current text = (code : ℕ) × IsNoteAnd other files current (refused_line code) text
 
 -- what a status has on standard error
 pub record IsErrorText (words : Words) (files : Option (List (List ℕ × List ℕ))) (r : Reading) (status : ℕ) (text : List ℕ) : Type 0 where
@@ -141,7 +160,7 @@ pub record IsErrorText (words : Words) (files : Option (List (List ℕ × List �
   pub no_link : status ≡ 5 → text ≡ line (codes "usebin: no link")
   pub input_refused : status ≡ 6 → IsInputLine words files r text
   pub memory : status ≡ 7 → text ≡ line (codes "usebin: no memory")
-  pub refused : status ≡ 8 → (code : ℕ) × IsNoteAnd words files r.current (refused_line code) text
+  pub refused : status ≡ 8 → IsRefusalText words files r.current text
   pub over : status ≡ 9 → (reason : Why) × (text ≡ over_line reason)
 
 -- ---- links
@@ -149,14 +168,31 @@ pub record IsErrorText (words : Words) (files : Option (List (List ℕ × List �
 -- the words ask for a command that makes use of links
 abbrev pub UsesLinks : Words → Type 0
 UsesLinks (Asks (Post asked)) = ⊤
+UsesLinks (Asks (AsksIndex asked)) = ⊤
 UsesLinks other = ⊥
+
+-- the words ask for nothing that is read from the input
+abbrev pub ReadsNothing : Words → Type 0
+ReadsNothing (Refused number) = ⊤
+ReadsNothing (Asks (AsksIndex asked)) = asked.login ≡ None
+ReadsNothing other = ⊥
+
+-- the words ask for a command that may leave out a part
+abbrev pub HasParts : Words → Type 0
+HasParts (Asks (Post asked)) = ⊤
+HasParts other = ⊥
 
 -- what a post does, says and writes
 abbrev pub Posts : Words → Option (List (List ℕ × List ℕ)) → ℕ → Reading → Linked → Written → Written → ℕ → Type 0
 Posts (Asks (Post asked)) files moment r t w e status = PostTells asked files moment r t w e status
 Posts other files moment r t w e status = ⊤
 
--- the statuses of all commands, and those of a command that makes use of links
+-- what an index asks, is told and writes
+abbrev pub Indexes : Words → Option (List (List ℕ × List ℕ)) → Reading → Linked → Written → Written → ℕ → Type 0
+Indexes (Asks (AsksIndex asked)) files r t w e status = IndexTells asked files r t w e status
+Indexes other files r t w e status = ⊤
+
+-- the statuses of all commands, and those of a command that makes use of links, of which 1 is that of parts alone
 abbrev pub IsStatusOf : Words → ℕ → Type 0
 IsStatusOf words status =
-    (status ≡ 0) ⊎ ((status ≡ 2) ⊎ ((status ≡ 3) ⊎ ((status ≡ 4) ⊎ ((status ≡ 6) ⊎ ((status ≡ 7) ⊎ (UsesLinks words × ((status ≡ 1) ⊎ ((status ≡ 5) ⊎ ((status ≡ 8) ⊎ (status ≡ 9))))))))))
+    (status ≡ 0) ⊎ ((status ≡ 2) ⊎ ((status ≡ 3) ⊎ ((status ≡ 4) ⊎ ((status ≡ 6) ⊎ ((status ≡ 7) ⊎ (UsesLinks words × ((HasParts words × (status ≡ 1)) ⊎ ((status ≡ 5) ⊎ ((status ≡ 8) ⊎ (status ≡ 9))))))))))

@@ -1,5 +1,5 @@
 -- What is seen of a sink before a call and after it.
-use Rattle.std.specs.Prelude.{◌≡◌, ◌⊎◌, ℕ, List, take, Option}
+use Rattle.std.specs.Prelude.{◌≡◌, ◌⊎◌, ℕ, Bool, true, false, List, take, Option}
 use Rattle.ub_base.specs.Causes.{Rose}
 use Rattle.ub_base.specs.Sink.{told_and}
 
@@ -32,3 +32,8 @@ pub record WroteFront (text : List ℕ) (w : Written) : Type 0 where
 -- the text was written, or a front of it where a write failed
 abbrev pub Got : List ℕ → Written → Type 0
 Got text w = WroteWhole text w ⊎ WroteFront text w
+
+-- a text was written whole, or only a front of it before a failed write
+abbrev pub Told : Bool → List ℕ → Written → Type 0
+Told true text w = WroteWhole text w
+Told false text w = WroteFront text w

@@ -5,6 +5,8 @@ mod body;
 mod check;
 mod decode;
 mod encode;
+mod index;
+mod login;
 mod nothing;
 mod post;
 mod printed;

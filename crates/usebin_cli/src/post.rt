@@ -5,11 +5,13 @@ ghost use Rattle.input_files.specs.Reading.{reading};
 ghost use Rattle.poster.specs.Index.{AreOutcomes};
 ghost use Rattle.poster.specs.Plan.{IsPlanOf};
 ghost use Rattle.poster.specs.Settings.{AreSettings};
-ghost use Rattle.usebin_cli.specs.Post.{AreAllPosted, FindsPostLogin, PlansFile, PostEnds, PostTells, PostsFile, ReadsLoginFile, SaysEnd, TellsPosted, Told, linked, posted_text, settings_of, status_of};
+ghost use Rattle.usebin_cli.specs.Post.{AreAllPosted, FindsPostLogin, PlansFile, PostEnds, PostTells, PostsFile, SaysEnd, TellsPosted, posted_text, settings_of, status_of};
+ghost use Rattle.usebin_cli.specs.Linked.{linked};
 ghost use Rattle.usebin_cli.specs.PostText.{part_line, part_lines};
-ghost use Rattle.usebin_cli.specs.Writing.{written};
+ghost use Rattle.usebin_cli.specs.Writing.{Told, written};
 
 use crate::encode::{Limit, MOST_BYTES, MOST_PARTS, parts_of};
+use crate::login::{LoginEnd, server_login};
 use crate::printed::write_end;
 use crate::statuses::{
     input_fault, link_over, login_broken, login_too_long, no_link, no_memory, output_fault,
@@ -17,16 +19,11 @@ use crate::statuses::{
 };
 use crate::writing::write_all;
 use command_words::PostWords;
-use input_files::{ReadError, read_part};
-use news_server::{LoginError, read_logins};
 use nntp_lines::{Login, Why};
 use nzb_index::write_nzb;
 use poster::{PartEnd, Plan, PostError, Sent, Settings, plan, post_index, run_post};
 use std::alloc::Global;
 use ub_base::{Bytes, Failed, Input, Links, List, Memory, Sink};
-
-// How many bytes a login file may have.
-const MOST_LOGIN: u64 = 65_536;
 
 /// How `post` ended.
 #[derive(Clone, Copy, Debug, PartialEq, Eq)]
@@ -168,44 +165,13 @@ fn login_of<I: Input>(
     ensures login { FindsPostLogin (post_found asked.now) (I.files input.old) (reading I.faults I.shorts I.short_place I.current I.blame input.old input.new) result }
     ensures files { OnOk result (I.files input.new ≡ I.files input.old) }
 {
-    let Some(path) = asked.login else {
-        return Ok(None);
-    };
-    let text = match login_text(alloc, path, input) {
-        Ok(text) => text,
-        Err(end) => return Err(end),
-    };
-    let logins = match read_logins(alloc, text.as_slice()) {
-        Ok(logins) => logins,
-        Err(LoginError::Memory) => return Err(PostEnd::Memory),
-        Err(LoginError::Broken(number)) => return Err(PostEnd::LoginBroken(number)),
-    };
-    match logins.login_for(asked.server) {
-        Some(login) => match login.clone() {
-            Ok(login) => Ok(Some(login)),
-            Err(_) => Err(PostEnd::Memory),
-        },
-        None => Ok(None),
-    }
-}
-
-// The text of the login file at a path.
-fn login_text<I: Input>(alloc: Global, path: &str, input: &mut I) -> Result<Bytes, PostEnd>
-    ensures text { ReadsLoginFile path.now (I.files input.old) (reading I.faults I.shorts I.short_place I.current I.blame input.old input.new) result }
-    ensures files { OnOk result (I.files input.new ≡ I.files input.old) }
-{
-    let Ok(len) = input.open(path) else {
-        return Err(PostEnd::InputFault);
-    };
-    if len > MOST_LOGIN {
-        return Err(PostEnd::LoginLimit);
-    }
-    match read_part(alloc, 0, len as usize, input) {
-        Ok(text) => Ok(text),
-        Err(ReadError::Memory) => Err(PostEnd::Memory),
-        Err(ReadError::Fault) => Err(PostEnd::InputFault),
-        Err(ReadError::Short(place)) => Err(PostEnd::Short(place)),
-        Err(ReadError::TooLong) => unreachable!(),
+    match server_login(alloc, asked.login, asked.server, input) {
+        Ok(login) => Ok(login),
+        Err(LoginEnd::Memory) => Err(PostEnd::Memory),
+        Err(LoginEnd::InputFault) => Err(PostEnd::InputFault),
+        Err(LoginEnd::Short(place)) => Err(PostEnd::Short(place)),
+        Err(LoginEnd::TooLong) => Err(PostEnd::LoginLimit),
+        Err(LoginEnd::Broken(number)) => Err(PostEnd::LoginBroken(number)),
     }
 }
 

@@ -3,13 +3,14 @@ ghost use Rattle.std.specs.Prelude.{◌≡◌, ◌≢◌, ◌≤◌, ◌<◌, �
 ghost use Rattle.ub_base.specs.Causes.{Rose};
 ghost use Rattle.command_words.specs.CommandLine.{words_of, IsRefused};
 ghost use Rattle.input_files.specs.Reading.{reading};
-ghost use Rattle.usebin_cli.specs.Post.{linked};
-ghost use Rattle.usebin_cli.specs.Run.{Wrote, InputFailed, IsErrorText, IsInGrammar, IsOutsideGrammar, IsOverLimit, IsStatusOf, Posts, UsesLinks};
+ghost use Rattle.usebin_cli.specs.Linked.{linked};
+ghost use Rattle.usebin_cli.specs.Run.{Wrote, InputFailed, IsErrorText, IsInGrammar, IsOutsideGrammar, IsOverLimit, Indexes, IsStatusOf, Posts, ReadsNothing, UsesLinks};
 ghost use Rattle.usebin_cli.specs.Writing.{written, Got, IsUntouched, WroteFront, WroteWhole};
 
 use crate::check::{CheckEnd, check};
 use crate::decode::{DecodeEnd, decode};
 use crate::encode::{EncodeEnd, encode};
+use crate::index::index_and_tell;
 use crate::post::post_and_tell;
 use crate::statuses::{
     input_fault, no_body, no_index, no_memory, no_reply, output_fault, over_limit, over_nzb_limit,
@@ -22,7 +23,7 @@ use ub_base::{Input, Links, Sink, Store};
 /// Does what the words ask for, and answers the status.
 ///
 /// `words` are those behind the program's name. `moment` is the time in seconds of Unix time. No command makes use of `store`
-/// yet, and only `post` of `links`.
+/// yet, and only `post` and `index` of `links`.
 ///
 /// | Status | Comes |
 /// |---|---|
@@ -32,10 +33,10 @@ use ub_base::{Input, Links, Sink, Store};
 /// | 3 | only where the count of faults of `input` rose |
 /// | 4 | only where the count of faults of `out` rose |
 /// | 5 | only where no link was opened, and the count of faults of `links` rose |
-/// | 6 | exactly where a read gave no byte below the file's length, the file or its asked part goes past a limit, or a text isn't in the grammar that is asked for |
+/// | 6 | exactly where a read gave no byte below the file's length, the file or its asked part goes past a limit, a text isn't in the grammar that is asked for, or an index would pass a limit |
 /// | 7 | want of memory, at any moment after the words are read |
-/// | 8 | exactly where the server refused to be sent an article, unless memory is wanting |
-/// | 9 | exactly where the link was over before a byte of an article was sent |
+/// | 8 | exactly where the server refused to be sent an article, to choose the newsgroup or to give an overview, unless memory is wanting |
+/// | 9 | exactly where the link was over before a byte of an article was sent, or before the last overview was heard |
 #[allow(clippy::too_many_arguments)]
 pub fn usebin<I: Input, T: Store, L: Links, O: Sink, E: Sink>(
     alloc: Global,
@@ -66,7 +67,7 @@ pub fn usebin<I: Input, T: Store, L: Links, O: Sink, E: Sink>(
     ensures output_count { O.faults out.old < O.faults out.new → (result ≡ 4) ⊎ (result ≡ 7) }
 
     // 6: exactly where a read gave no byte below the file's length, the file or what is asked of it goes past a limit, or
-    // what is to be decoded has no body, or what is to be checked is no NZB.
+    // what is to be decoded has no body, what is to be checked is no NZB, a login file breaks a rule, or an index is full.
     ensures input_refused { result ≡ 6 → Rose (I.shorts input.old) (I.shorts input.new) ⊎ (IsOverLimit (words_of (map string_bytes words.now)) (I.current input.new)
         ⊎ IsOutsideGrammar (words_of (map string_bytes words.now)) (I.files input.old) (I.current input.new)) }
     ensures in_grammar { IsInGrammar (words_of (map string_bytes words.now)) (I.files input.old) (I.current input.new) → result ≡ 6 → Rose (I.shorts input.old) (I.shorts input.new) }
@@ -77,11 +78,17 @@ pub fn usebin<I: Input, T: Store, L: Links, O: Sink, E: Sink>(
     ensures posts { Posts (words_of (map string_bytes words.now)) (I.files input.old) moment (reading I.faults I.shorts I.short_place I.current I.blame input.old input.new)
         (linked L.trace L.faults L.blame links.old links.new) (written O.faults O.told out.old out.new) (written E.faults E.told err.old err.new) result }
 
+    // What `index` asks over its link, makes of what it hears and writes, and with which of its statuses that ends.
+    ensures indexes { Indexes (words_of (map string_bytes words.now)) (I.files input.old) (reading I.faults I.shorts I.short_place I.current I.blame input.old input.new)
+        (linked L.trace L.faults L.blame links.old links.new) (written O.faults O.told out.old out.new) (written E.faults E.told err.old err.new) result }
+
     // No other status is answered, and but for 0, 1 and 4 nothing is written to `out`.
     ensures statuses { IsStatusOf (words_of (map string_bytes words.now)) result }
     ensures untouched { result ≢ 0 → result ≢ 1 → result ≢ 4 → IsUntouched (written O.faults O.told out.old out.new) }
 
-    // The other objects are as they were, but for the links of a command that makes use of them.
+    // The other objects are as they were, but for the links of a command that makes use of them, and the input of one that
+    // reads something.
+    ensures input { ReadsNothing (words_of (map string_bytes words.now)) → input.new ≡ input.old }
     ensures store { store.new ≡ store.old }
     ensures links { ¬ UsesLinks (words_of (map string_bytes words.now)) → links.new ≡ links.old }
 
@@ -112,6 +119,7 @@ pub fn usebin<I: Input, T: Store, L: Links, O: Sink, E: Sink>(
             DecodeEnd::OutputFault(false) => 4,
         },
         Ok(Command::Post(asked)) => post_and_tell(alloc, asked, moment, input, links, out, err),
+        Ok(Command::Index(asked)) => index_and_tell(alloc, asked, input, links, out, err),
         Ok(Command::Check(asked)) => match check(alloc, asked, input, out) {
             CheckEnd::Done => 0,
             CheckEnd::Memory => no_memory(err),

@@ -30,8 +30,8 @@ pub(crate) fn say_numbered<O: Sink>(out: &mut O, text: &[u8], number: u64)
     let _ = write_numbered(out, text, number);
 }
 
-// Writes a text, a number in decimal, and the line's end.
-fn write_numbered<O: Sink>(out: &mut O, text: &[u8], number: u64) -> Result<(), Failed>
+/// Writes a text, a number in decimal, and the line's end.
+pub(crate) fn write_numbered<O: Sink>(out: &mut O, text: &[u8], number: u64) -> Result<(), Failed>
     ensures { MatchResult result
         (λ _. WroteWhole (text.now ++ decimal number ++ 10 ∷ []) (written O.faults O.told out.old out.new))
         (λ _. WroteFront (text.now ++ decimal number ++ 10 ∷ []) (written O.faults O.told out.old out.new)) }

@@ -6,4 +6,6 @@ mod command_lines;
 #[cfg(test)]
 mod fixtures;
 #[cfg(test)]
+mod indexes;
+#[cfg(test)]
 mod posts;

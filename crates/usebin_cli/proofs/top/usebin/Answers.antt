@@ -5,6 +5,8 @@ use Rattle.input_files.specs.Reading.{reading}
 use Rattle.usebin_cli.proofs.RunLemmas.{over_limit}
 use Rattle.usebin_cli.proofs.TopLemmas.{body_no_reply_fault, body_not_refused, body_not_too_long, decode_fault_half_text, decode_fault_text, check_tells_nothing, decoded_text, encode_tells_nothing, no_nzb, nzb_is_not_refused, nzb_is_not_too_long, no_nzb_line, nzb_too_long, refused_text, silent_fault_text, silent_text, text_no_body, text_no_reply, text_too_long}
 use Rattle.command_words.specs.Post.{post_found}
+use Rattle.command_words.specs.Index.{index_found}
+use Rattle.usebin_cli.proofs.IndexLemmas.{index_done, index_fault, index_refused, index_text}
 use Rattle.usebin_cli.proofs.PostLemmas.{post_done, post_fault, post_in_grammar, post_refused, post_text}
 use Rattle.usebin_cli.proofs.top.usebin.Goals as goal
 
@@ -118,3 +120,15 @@ returns-in-Ok-Post-clause-in_grammar g c = post_in_grammar _ (post_found c.in-Ok
 
 pub returns-in-Ok-Post-clause-error_text : goal.returns-in-Ok-Post-clause-error_text
 returns-in-Ok-Post-clause-error_text g c = post_text _ (post_found c.in-Ok-Post.asked) _ _ _ _ _ _ _ (rw c.in-Ok-Post.field-0-is at c.in-Ok-Post.ensures.words) c.post_and_tell.ensures
+
+pub returns-in-Ok-Index-clause-done : goal.returns-in-Ok-Index-clause-done
+returns-in-Ok-Index-clause-done g c = index_done _ (index_found c.in-Ok-Index.asked) _ _ _ _ _ _ (rw c.in-Ok-Index.field-0-is at c.in-Ok-Index.ensures.words) c.index_and_tell.ensures.tells
+
+pub returns-in-Ok-Index-clause-output_fault : goal.returns-in-Ok-Index-clause-output_fault
+returns-in-Ok-Index-clause-output_fault g c = index_fault _ (index_found c.in-Ok-Index.asked) _ _ _ _ _ _ (rw c.in-Ok-Index.field-0-is at c.in-Ok-Index.ensures.words) c.index_and_tell.ensures.tells
+
+pub returns-in-Ok-Index-clause-input_refused : goal.returns-in-Ok-Index-clause-input_refused
+returns-in-Ok-Index-clause-input_refused g c = index_refused _ (index_found c.in-Ok-Index.asked) _ _ _ _ _ _ (rw c.in-Ok-Index.field-0-is at c.in-Ok-Index.ensures.words) c.index_and_tell.ensures.tells
+
+pub returns-in-Ok-Index-clause-error_text : goal.returns-in-Ok-Index-clause-error_text
+returns-in-Ok-Index-clause-error_text g c = index_text _ (index_found c.in-Ok-Index.asked) _ _ _ _ _ _ (rw c.in-Ok-Index.field-0-is at c.in-Ok-Index.ensures.words) c.index_and_tell.ensures.tells

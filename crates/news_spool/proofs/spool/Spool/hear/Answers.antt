@@ -18,8 +18,9 @@ invariant_of-self c = record {
 pub returns-clause-ok : goal.returns-clause-ok
 returns-clause-ok c =
     OnOk-follows c.hear.result _ _
-    (sent_is c.args.self.now.plan c.args.self.now.links.items c.args.self.now.articles c.args.link c.args.bytes.now c.index_mut-state.result.now c.login_of-login.result.now
-    c.hear.new.self c.hear.new.articles c.requires c.index_mut-state.ensures.value (cc)) c.hear.ensures.ok
+    (sent_is c.args.self.now.plan c.args.self.now.links.items c.args.self.now.articles c.args.link c.as_slice-date.result.now c.args.bytes.now
+    c.index_mut-state.result.now c.login_of-login.result.now c.hear.new.self c.hear.new.articles c.requires c.index_mut-state.ensures.value (cc)
+    c.as_slice-date.ensures) c.hear.ensures.ok
 
 pub returns-clause-ended : goal.returns-clause-ended
 returns-clause-ended c =

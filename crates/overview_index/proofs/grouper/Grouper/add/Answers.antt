@@ -1,4 +1,4 @@
-use Rattle.std.proofs.Common.{◌≡◌, ◌<◌, ◌∙◌, ap, rules, subst, sym}
+use Rattle.std.proofs.Common.{◌∙◌, ap, rules, sym}
 use Rattle.overview_lines.specs.OverLine.{over_in}
 use Rattle.overview_index.specs.Group.{Counted}
 use Rattle.overview_index.specs.Grouper.{count_behind}

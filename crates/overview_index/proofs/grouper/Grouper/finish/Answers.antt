@@ -1,9 +1,6 @@
-use Rattle.std.proofs.Common.{◌≡◌, ◌++◌, [], ◌∙◌, append-nil, ap, map, rules, subst, sym}
+use Rattle.std.proofs.Common.{◌≡◌, ◌++◌, [], ◌∙◌, append-nil, ap, map, rules, sym}
 use Rattle.std.specs.Map.{values_of}
-use Rattle.std.proofs.lemmas.Map.Iter.{rest_all}
-use Rattle.nntp_lines.specs.GroupName.{IsGroupName}
 use Rattle.overview_index.specs.Draft.{entry_of}
-use Rattle.overview_index.specs.declared.draft.Draft.{Draft}
 use Rattle.overview_index.proofs.Finished.{index_is}
 use Rattle.overview_index.proofs.Validity.{index_valid}
 use Rattle.overview_index.proofs.grouper.Grouper.finish.Goals as goal

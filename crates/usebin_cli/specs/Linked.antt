@@ -1,0 +1,36 @@
+-- What is seen of links before a call and after it.
+use Rattle.std.specs.Prelude.{◌≡◌, ℕ, List, Option, Err}
+use Rattle.ub_base.specs.Causes.{Rose, BlamesNamed}
+use Rattle.ub_base.specs.declared.blame.Blame.{Blame}
+use Rattle.ub_base.specs.declared.blame.Blame.TheVariants as blames
+use Rattle.ub_base.specs.declared.links.LinkEvent.{LinkEvent}
+
+-- the trace, the count of faults and the last failed call of links, before and after
+pub record Linked : Type 0 where
+  pub trace_before : Option (List LinkEvent)
+  pub trace_now : Option (List LinkEvent)
+  pub faults_before : ℕ
+  pub faults_now : ℕ
+  pub blame_before : Option (Option Blame)
+  pub blame_now : Option (Option Blame)
+
+-- the same, of links with these members
+abbrev pub linked : {L : Type 0} → (L → Option (List LinkEvent)) → (L → ℕ) → (L → Option (Option Blame)) → L → L → Linked
+linked trace faults blame before now = record {
+  trace_before = trace before;
+  trace_now = trace now;
+  faults_before = faults before;
+  faults_now = faults now;
+  blame_before = blame before;
+  blame_now = blame now;
+}
+
+-- no link was opened
+abbrev pub OpenedNone : Linked → Type 0
+OpenedNone t = t.trace_now ≡ t.trace_before
+
+-- the opening of a link to this address failed
+pub record FailedToOpen (address : List ℕ) (t : Linked) : Type 0 where
+  pub none : OpenedNone t
+  pub faults : Rose t.faults_before t.faults_now
+  pub blame : BlamesNamed {T = ℕ} {E = ℕ} t.blame_before t.blame_now (blames.Open address) (Err 0)
