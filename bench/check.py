@@ -61,4 +61,5 @@ def main():
         print(f"xmllint: {theirs:.2f} s, peak memory {peak / size:.1f} times the text; usebin takes {seconds / theirs:.2f} times its time")
 
 
-main()
+if __name__ == "__main__":
+    main()

@@ -1,6 +1,7 @@
 """What the benchmarks share: the built program, and the least processor time and the greatest peak memory of some runs."""
 
 import os
+import subprocess
 import sys
 
 ROOT = os.path.dirname(os.path.dirname(os.path.abspath(__file__)))
@@ -10,7 +11,16 @@ TRIES = 5
 
 
 def measure(words, output=os.devnull):
-    """The least processor time of some runs, in seconds, and their greatest peak memory, in bytes."""
+    """The least processor time of some runs, in seconds, and their greatest peak memory, in bytes. The runs are begun by a small
+    process of their own, since a process's peak counts what the one that began it had."""
+    run = subprocess.run([sys.executable, os.path.abspath(__file__), output, *words], capture_output=True, text=True)
+    if run.returncode != 0:
+        sys.exit(run.stderr.strip())
+    time, peak = run.stdout.split()
+    return float(time), int(peak)
+
+
+def run_all(output, words):
     times, peaks = [], []
     for _ in range(TRIES):
         child = os.fork()
@@ -26,7 +36,7 @@ def measure(words, output=os.devnull):
             sys.exit(f"{words[0]} ended with {status}")
         times.append(usage.ru_utime + usage.ru_stime)
         peaks.append(usage.ru_maxrss * 1024)
-    return min(times), max(peaks)
+    print(min(times), max(peaks))
 
 
 def yenc_peer(script):
@@ -35,3 +45,7 @@ def yenc_peer(script):
         return [PYTHON, "-c", script]
     print("python3-yenc isn't installed: no peer")
     return None
+
+
+if __name__ == "__main__":
+    run_all(sys.argv[1], sys.argv[2:])

@@ -41,16 +41,49 @@ printf '430 none\r\n' >reply
 "$program" decode --form wire --input reply >out 2>err
 [ $? -eq 6 ] && [ "$(head -n 1 err)" = 'usebin: reply Code 430' ] || complain "another answer for a reply without a body"
 
-if command -v uuenview >/dev/null 2>&1; then
-    uuenview -y -1000 -o file >/dev/null 2>&1
+# theirs NAME LINES: uuenview's bodies of a file, of so many lines each, are decoded and put together
+theirs() {
+    rm -f ./*.00* ./*.01*
+    uuenview -y "-$2" -o "$1" >/dev/null 2>&1
     : >whole
-    for body in file.0*; do
-        { printf 'From: a@example.org\nSubject: file\n\n'; cat "$body"; } >saved
-        "$program" decode --input saved >>whole 2>err || complain "a body of uuenview is refused: $(cat err)"
+    for body in "$1".0* "${1%.bin}".0*; do
+        [ -f "$body" ] || continue
+        { printf 'From: a@example.org\nSubject: %s\n\n' "$1"; cat "$body"; } >saved
+        "$program" decode --input saved >>whole 2>err || complain "a body of uuenview is refused: $1: $(cat err)"
+        bodies=$((bodies + 1))
     done
-    cmp -s whole file || complain "the bodies of uuenview give other bytes"
+    cmp -s whole "$1" || complain "the bodies of uuenview give other bytes: $1"
+}
+
+if command -v uuenview >/dev/null 2>&1; then
+    printf 'a' >small.bin
+    awk 'BEGIN { for (i = 0; i < 3000; i++) printf "\326\340\343\023\004\366\337" }' >critical.bin
+    mv file large.bin
+    bodies=0
+    for name in small.bin critical.bin large.bin; do
+        theirs "$name" 100000
+    done
+    [ "$bodies" -eq 3 ] || complain "uuenview made $bodies bodies in place of 3"
+    theirs critical.bin 50
+    theirs large.bin 1000
+    [ "$bodies" -gt 5 ] || complain "uuenview made no file in several parts"
     echo "outside/decode: bodies of uuenview read"
 else
     echo "outside/decode: uuenview isn't installed, its bodies are skipped"
+fi
+
+# An encoder writes the data lines of the empty file too: python3-yenc's, between a header and a trailer.
+if /usr/bin/python3 -c 'import _yenc' 2>/dev/null; then
+    for name in empty large.bin; do
+        [ -f "$name" ] || continue
+        /usr/bin/python3 -c 'import _yenc, sys; _yenc.encode(open(sys.argv[1], "rb"), open("data", "wb"), 0)' "$name" >/dev/null 2>&1
+        size=$(wc -c <"$name")
+        { printf '=ybegin line=128 size=%s name=x\r\n' "$size"; cat data; [ -s data ] && printf '\r\n'; printf '=yend size=%s\r\n' "$size"; } >saved
+        "$program" decode --input saved >out 2>err || complain "a body of python3-yenc is refused: $name: $(cat err)"
+        cmp -s out "$name" || complain "a body of python3-yenc gives other bytes: $name"
+    done
+    echo "outside/decode: bodies of python3-yenc read"
+else
+    echo "outside/decode: python3-yenc isn't installed, its bodies are skipped"
 fi
 exit $status

@@ -52,18 +52,54 @@ expect 2 'usebin: words 5' encode --input many/ --line "$(printf '\377')" --name
 "$program" encode --input d >/dev/full 2>err
 [ $? -eq 4 ] && [ "$(head -n 1 err)" = 'usebin: output fault' ] || complain "a full device is no output fault"
 
+# Files to be read back: no byte, a few, those that are escaped or look like lines of their own, and large ones.
+: >none.bin
+printf 'a' >one.bin
+head -c 2000 /dev/urandom >small.bin
+awk 'BEGIN { for (i = 0; i < 3000; i++) printf "\326\340\343\023\004\366\337" }' >critical.bin
 head -c 3000000 /dev/urandom >'my file.bin'
-head -c 1000000 /dev/zero >zeros
+head -c 1000000 /dev/zero >zeros.bin
+
+# back NAME: the text or texts in text* are decoded to the file of this name
+back() {
+    rm -rf back && mkdir back
+    uudeview -i -q -p back/ text* >/dev/null 2>&1
+    cmp -s "$1" "back/$1" || complain "uudeview read other bytes of $1 from $(ls text* | wc -l) texts"
+}
+
 if command -v uudeview >/dev/null 2>&1; then
-    mkdir back
-    for name in 'my file.bin' zeros; do
+    for name in small.bin critical.bin 'my file.bin' zeros.bin; do
+        rm -f text*
         expect 0 '' encode --input "$name"
         mv out text
-        uudeview -i -q -p back/ text >/dev/null 2>&1
-        cmp -s "$name" "back/$name" || complain "uudeview read other bytes of $name"
+        back "$name"
+    done
+    for name in critical.bin 'my file.bin' zeros.bin; do
+        rm -f text*
+        size=$(wc -c <"$name")
+        part=1
+        while [ "$part" -le 5 ]; do
+            expect 0 '' encode --input "$name" --part-size $(((size + 4) / 5)) --part "$part"
+            { printf 'From: a@example.org\nSubject: "%s" yEnc (%s/5)\n\n' "$name" "$part"; cat out; } >"text$part"
+            part=$((part + 1))
+        done
+        back "$name"
     done
     echo "outside/encode: read back by uudeview"
 else
     echo "outside/encode: uudeview isn't installed, reading back is skipped"
+fi
+
+# Files of no byte and of one, in the short texts of which uudeview sees none, are read back by the decoder of python3-yenc.
+if /usr/bin/python3 -c 'import _yenc' 2>/dev/null; then
+    for name in none.bin one.bin small.bin critical.bin; do
+        expect 0 '' encode --input "$name"
+        sed '1d; $d' out >data
+        /usr/bin/python3 -c 'import _yenc; _yenc.decode(open("data", "rb"), open("back.bin", "wb"), 0)' >/dev/null 2>&1
+        cmp -s "$name" back.bin || complain "python3-yenc read other bytes of $name"
+    done
+    echo "outside/encode: read back by python3-yenc"
+else
+    echo "outside/encode: python3-yenc isn't installed, reading back is skipped"
 fi
 exit $status

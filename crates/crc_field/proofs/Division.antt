@@ -1,25 +1,17 @@
--- A byte taken in at once and then shifted eight times gives the remainder after its eight bits.
-use Rattle.std.proofs.Common.{◌≡◌, ℕ, zero, suc, ◌+◌, ◌/◌, ◌%◌, ◌^◌, ◌<◌, ◌==◌, Bool, true, false, List, [], ◌∷◌, ◌++◌, bit_xor, if◌then◌else◌, refl, sym, ◌∙◌, ap, arith, append_assoc, add-one, add-zero, length, take, get_or}
-use Rattle.std.proofs.lemmas.List.{append-nil, take_more}
+-- Bits that are taken in at once and then shifted give the remainder after them, and messages in pieces.
+use Rattle.std.proofs.Common.{◌≡◌, ℕ, zero, suc, ◌+◌, ◌/◌, ◌%◌, ◌^◌, ◌<◌, ◌==◌, Bool, true, false, List, [], ◌∷◌, ◌++◌, bit_xor, if◌then◌else◌, refl, sym, ◌∙◌, ap, arith, append_assoc, add-zero}
 use Rattle.std.proofs.lemmas.Nat.{xor_comm, xor_shr}
 use Rattle.std.specs.Int.Bits.{xor_assoc, xor_zero_r}
 use Rattle.std.proofs.lemmas.Nat.Bits.{bit_at_xor, bit_at_lowest}
 use Rattle.std.proofs.Math.Nat.{div-div-eq-div-mul, div-one}
 use native.Mathlib.Numerals.{unary_clauses}
 use native.Mathlib.Nat.{mul_comm}
-use Rattle.crc_field.specs.Crc.{low_bits, message_bits, divided, remainder_after, remainder_of}
+use Rattle.crc_field.specs.Crc.{low_bits, message_bits, divided, remainder_after}
+use Rattle.crc_field.specs.Shifts.{shifts}
 
--- one shift of a register
+-- one shift of a remainder
 abbrev pub shift : ℕ → ℕ
 shift r = divided r 0
-
-unfoldable pub shifts : ℕ → ℕ → ℕ
-shifts zero r = r
-shifts (suc k) r = shift (shifts k r)
-
-pub shifts_more : (k r : ℕ) → shifts (k + 1) r ≡ shift (shifts k r)
-unfolding shifts
-shifts_more k r = rw add-one refl
 
 shifts-shift : (k r : ℕ) → shifts k (shift r) ≡ shift (shifts k r)
 unfolding shifts
@@ -42,7 +34,7 @@ chosen : (b : Bool) (r n p : ℕ) → (if b then bit_xor (bit_xor r n) p else bi
 chosen true r n p = xor_assoc r n p ∙ ap (bit_xor r) (xor_comm n p) ∙ sym (xor_assoc r p n)
 chosen false r n p = refl
 
-shift_xor : (r n : ℕ) → shift (bit_xor r n) ≡ bit_xor (divided r (n % 2)) (n / 2)
+pub shift_xor : (r n : ℕ) → shift (bit_xor r n) ≡ bit_xor (divided r (n % 2)) (n / 2)
 unfolding divided
 shift_xor r n =
     rw (add-zero, low_of_xor r n, half_of_xor r n) (chosen ((r + n % 2) % 2 == 1) (r / 2) (n / 2) 0xEDB88320)
@@ -62,26 +54,25 @@ after_byte_is r n lt =
     let e : n / 2 ^ 8 ≡ 0 = omega arith in
     shifts_xor 8 r n ∙ rw e (xor_zero_r (remainder_after r (low_bits 8 n)))
 
-pub remainder_after-append : (r : ℕ) (xs ys : List ℕ) → remainder_after r (xs ++ ys) ≡ remainder_after (remainder_after r xs) ys
+remainder_after-append : (r : ℕ) (xs ys : List ℕ) → remainder_after r (xs ++ ys) ≡ remainder_after (remainder_after r xs) ys
 unfolding remainder_after
 remainder_after-append r [] ys = refl
 remainder_after-append r (x ∷ xs) ys = remainder_after-append (divided r x) xs ys
 
-pub message_bits-append : (xs ys : List ℕ) → message_bits (xs ++ ys) ≡ message_bits xs ++ message_bits ys
+message_bits-append : (xs ys : List ℕ) → message_bits (xs ++ ys) ≡ message_bits xs ++ message_bits ys
 unfolding message_bits
 message_bits-append [] ys = refl
 message_bits-append (x ∷ xs) ys = ap (λ l. low_bits 8 x ++ l) (message_bits-append xs ys) ∙ sym (append_assoc (low_bits 8 x) (message_bits xs) (message_bits ys))
 
-pub remainder_of-append : (xs ys : List ℕ) → remainder_of (xs ++ ys) ≡ remainder_after (remainder_of xs) (message_bits ys)
-remainder_of-append xs ys = ap (remainder_after 0xFFFFFFFF) (message_bits-append xs ys) ∙ remainder_after-append 0xFFFFFFFF (message_bits xs) (message_bits ys)
-
-one_byte : (x : ℕ) → message_bits (x ∷ []) ≡ low_bits 8 x
+-- a byte in front of a message
+pub byte_first : (r x : ℕ) (xs : List ℕ) → remainder_after r (message_bits (x ∷ xs)) ≡ remainder_after (remainder_after r (low_bits 8 x)) (message_bits xs)
 unfolding message_bits
-one_byte x = append-nil (low_bits 8 x)
+byte_first r x xs = remainder_after-append r (low_bits 8 x) (message_bits xs)
 
--- one more byte of a message
-pub one_more : (r : ℕ) (bytes : List ℕ) (i : ℕ) → i < length bytes → remainder_after (remainder_after r (message_bits (take i bytes))) (low_bits 8 (get_or bytes i 0)) ≡ remainder_after r (message_bits (take (i + 1) bytes))
-one_more r bytes i lt =
-    sym (ap (λ l. remainder_after r (message_bits l)) (take_more bytes i 0 lt)
-    ∙ ap (remainder_after r) (message_bits-append (take i bytes) (get_or bytes i 0 ∷ []) ∙ ap (λ l. message_bits (take i bytes) ++ l) (one_byte (get_or bytes i 0)))
-    ∙ remainder_after-append r (message_bits (take i bytes)) (low_bits 8 (get_or bytes i 0)))
+-- a message in two pieces, or in none
+pub two_pieces : (r : ℕ) (xs ys : List ℕ) → remainder_after r (message_bits (xs ++ ys)) ≡ remainder_after (remainder_after r (message_bits xs)) (message_bits ys)
+two_pieces r xs ys = ap (remainder_after r) (message_bits-append xs ys) ∙ remainder_after-append r (message_bits xs) (message_bits ys)
+
+pub no_more : (r : ℕ) → remainder_after r (message_bits []) ≡ r
+unfolding message_bits remainder_after
+no_more r = refl

@@ -1,2 +1,5 @@
+mod BlockLaws
 pub mod Division
 pub mod HexDigits
+mod ShiftLaws
+mod TableLaws

@@ -1,11 +1,9 @@
-// The sum, with a plain loop over bits.
-ghost use Rattle.std.specs.Prelude.{◌≡◌, ℕ, List, [], ◌++◌};
-ghost use Rattle.crc_field.specs.Crc.{StandsFor, crc32, divided, low_bits, remainder_after};
+// The sum, sixteen bytes at a time.
+ghost use Rattle.std.specs.Prelude.{◌≡◌, ◌≤◌, ℕ, List, [], ◌++◌, drop, length};
+ghost use Rattle.crc_field.specs.Crc.{StandsFor, crc32, message_bits, remainder_after};
 
+use crate::tables::{BLOCK, WORD, after_block, after_byte, after_word};
 use std::marker::Model;
-
-// The divisor x^32 + x^26 + .. + 1 without its highest power, the lowest bit first.
-const DIVISOR: u32 = 0xEDB8_8320;
 
 const ALL_ONES: u32 = 0xFFFF_FFFF;
 
@@ -40,10 +38,12 @@ impl Crc {
         ensures { (before : List ℕ) → StandsFor self.old before → StandsFor self.new (before ++ bytes.now) }
     {
         let mut remainder = self.remainder;
-        for byte in bytes {
-            remainder = after_byte(remainder, *byte);
+        let mut at = 0;
+        while bytes.len() - at >= BLOCK {
+            remainder = after_block(remainder, bytes, at);
+            at += BLOCK;
         }
-        self.remainder = remainder;
+        self.remainder = after_words(remainder, bytes, at);
     }
 
     /// The CRC-32 of all bytes so far.
@@ -62,25 +62,28 @@ impl Default for Crc {
     }
 }
 
-// The remainder after the eight bits of a byte, the lowest one first.
-fn after_byte(remainder: u32, byte: u8) -> u32
-    ensures { result ≡ remainder_after remainder (low_bits 8 byte) }
+// The remainder after the bytes from a place on, four by four.
+fn after_words(remainder: u32, bytes: &[u8], from: usize) -> u32
+    requires { from ≤ length bytes.now }
+    ensures { result ≡ remainder_after remainder (message_bits (drop from bytes.now)) }
 {
-    let mut shifting = remainder ^ u32::from(byte);
-    for _ in 0..8u32 {
-        shifting = shifted(shifting);
+    let mut after = remainder;
+    let mut at = from;
+    while bytes.len() - at >= WORD {
+        after = after_word(after, bytes, at);
+        at += WORD;
     }
-    shifting
+    after_rest(after, bytes, at)
 }
 
-// The remainder after one bit that is 0.
-#[tactic(auto, unfolding(crate::specs::Crc::divided))]
-fn shifted(remainder: u32) -> u32
-    ensures { result ≡ divided remainder 0 }
+// The remainder after the bytes from a place on, one by one.
+fn after_rest(remainder: u32, bytes: &[u8], from: usize) -> u32
+    requires { from ≤ length bytes.now }
+    ensures { result ≡ remainder_after remainder (message_bits (drop from bytes.now)) }
 {
-    if remainder & 1 == 1 {
-        (remainder >> 1) ^ DIVISOR
-    } else {
-        remainder >> 1
+    let mut after = remainder;
+    for at in from..bytes.len() {
+        after = after_byte(after, bytes[at]);
     }
+    after
 }

@@ -3,6 +3,8 @@
 
 mod crc;
 mod hex;
+mod table_numbers;
+mod tables;
 
 pub use crc::Crc;
 pub use hex::write_hex;

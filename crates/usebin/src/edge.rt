@@ -1,6 +1,8 @@
 // What stands between the system and the top call: the words, the moment, and what is said to a person.
 ghost use Rattle.std.specs.Prelude.{◌≤◌};
 
+use crate::explain::{explain_fault, explain_memory, explain_words, hint, wants_hints};
+use crate::help::Page;
 use command_words::refused_word;
 use std::env::{Env, FillError};
 use std::io::ErrorKind;
@@ -30,6 +32,9 @@ fn all_words(rt: &HostRuntime) -> io::Result<Vec<String>> {
 
 fn say_no_memory(rt: &HostRuntime) -> u8 {
     let _ = rt.stderr().println("usebin: no memory");
+    if wants_hints(rt) {
+        explain_memory(rt);
+    }
     7
 }
 
@@ -39,15 +44,13 @@ fn refuse_not_text(rt: &HostRuntime) -> u8 {
     let Ok((words, not_text)) = words_of_text(rt) else {
         return say_no_memory(rt);
     };
-    match refused_word(&words) {
-        Some(number) if number < not_text => {
-            let _ = rt.stderr().println(format_args!("usebin: words {number}"));
+    let refused = refused_word(&words).unwrap_or(not_text).min(not_text);
+    let _ = rt.stderr().println(format_args!("usebin: words {refused}"));
+    if wants_hints(rt) {
+        if refused < not_text {
             explain_words(rt, &words);
-        }
-        _ => {
-            let _ = rt.stderr().println(format_args!(
-                "usebin: words {not_text}\n  it is not UTF-8 text"
-            ));
+        } else {
+            hint(rt, "that word is not UTF-8 text");
         }
     }
     2
@@ -96,39 +99,30 @@ pub(crate) fn moment_of(rt: &HostRuntime) -> u64
     }
 }
 
-/// Prints a text of help, and answers the status.
-pub(crate) fn print_help(rt: &HostRuntime, text: &str) -> u8 {
-    match rt.stdout().print(text) {
+/// Prints a page of help, and answers the status.
+pub(crate) fn print_help(rt: &HostRuntime, page: &Page) -> u8 {
+    let printed = rt.stdout().print(format_args!(
+        "{}{}{}",
+        page.opening, page.middle, page.closing
+    ));
+    match printed {
         Ok(()) => 0,
         Err(error) => {
-            let _ = rt
-                .stderr()
-                .println(format_args!("usebin: output fault\n  {error}"));
+            let _ = rt.stderr().println("usebin: output fault");
+            if wants_hints(rt) {
+                explain_fault(rt, "standard output", Some(&error));
+            }
             4
         }
     }
 }
 
-/// Explains the status of refused words.
-pub(crate) fn explain_words(rt: &HostRuntime, words: &[String]) {
-    let Some(number) = refused_word(words) else {
-        return;
-    };
-    let index = (number as usize).saturating_sub(1);
-    let _ = match words.get(index) {
-        Some(word) => rt
-            .stderr()
-            .println(format_args!("  not understood: {word:?}")),
-        None => rt.stderr().println("  a word is missing at the end"),
-    };
-    let _ = rt.stderr().println(
-        "  usebin --help lists the commands, usebin COMMAND --help what one takes",
-    );
-}
-
-/// Explains the status of a failed call by the system's reason for it.
-pub(crate) fn explain_reason(rt: &HostRuntime, reason: Option<&io::Error>) {
-    if let Some(error) = reason {
-        let _ = rt.stderr().println(format_args!("  {error}"));
+/// The word behind a key, where the key stands among the words.
+pub(crate) fn value_of<'a>(words: &'a [String], key: &str) -> Option<&'a str> {
+    for at in 1..words.len().saturating_sub(1) {
+        if at % 2 == 1 && words[at].as_str() == key {
+            return Some(words[at + 1].as_str());
+        }
     }
+    None
 }

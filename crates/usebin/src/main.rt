@@ -1,13 +1,20 @@
-//! usebin: the program. It makes the real objects, calls the top call, and explains to a person what was refused.
+//! usebin: the program. It makes the real objects, calls the top call, and explains to a person how that ended.
 #![tactic(auto)]
 
 mod edge;
+mod explain;
 mod help;
+mod last_line;
+mod meaning;
+mod named_input;
 
-use edge::{command_line, explain_reason, explain_words, moment_of, print_help};
+use edge::{command_line, moment_of, print_help, value_of};
+use explain::{explain_fault, explain_line, explain_memory, explain_words, wants_hints};
 use help::help_for;
+use last_line::LastLine;
+use named_input::NamedInput;
 use std::process::ExitCode;
-use ub_base::{ErrSink, FileInput, OutSink, TcpLinks};
+use ub_base::{ErrSink, OutSink, TcpLinks};
 use usebin_cli::{NoStore, usebin};
 
 fn main(rt: HostRuntime) -> ExitCode {
@@ -16,7 +23,7 @@ fn main(rt: HostRuntime) -> ExitCode {
         Err(status) => return ExitCode::from(status),
     };
     match help_for(&words) {
-        Some(text) => ExitCode::from(print_help(&rt, text)),
+        Some(text) => ExitCode::from(print_help(&rt, &text)),
         None => ExitCode::from(run(&rt, &words)),
     }
 }
@@ -24,10 +31,10 @@ fn main(rt: HostRuntime) -> ExitCode {
 // Does what the words ask for with the files of the system, its standard streams and links over TCP, and explains the status
 // below the line that the top call wrote, unless that line couldn't be written.
 fn run(rt: &HostRuntime, words: &[String]) -> u8 {
-    let mut input = FileInput::new(rt);
+    let mut input = NamedInput::new(rt.alloc(), rt);
     let mut links = TcpLinks::new(rt.alloc(), rt);
     let mut out = OutSink::new(rt.stdout());
-    let mut err = ErrSink::new(rt.stderr());
+    let mut err = LastLine::new(ErrSink::new(rt.stderr()));
     let status = usebin(
         rt.alloc(),
         words,
@@ -38,12 +45,23 @@ fn run(rt: &HostRuntime, words: &[String]) -> u8 {
         &mut err,
         moment_of(rt),
     );
-    match (status, err.reason()) {
-        (2, None) => explain_words(rt, words),
-        (3, None) => explain_reason(rt, input.reason()),
-        (4, None) => explain_reason(rt, out.reason()),
-        (5, None) => explain_reason(rt, links.reason()),
-        _ => {}
+    let Some(line) = err.line() else {
+        return status;
+    };
+    if status == 0 || !wants_hints(rt) {
+        return status;
+    }
+    match status {
+        2 => explain_words(rt, words),
+        3 => explain_fault(rt, input.path().unwrap_or("a file"), input.reason()),
+        4 => explain_fault(rt, "standard output", out.reason()),
+        5 => explain_fault(
+            rt,
+            value_of(words, "--server").unwrap_or("the server"),
+            links.reason(),
+        ),
+        7 => explain_memory(rt),
+        _ => explain_line(rt, line),
     }
     status
 }

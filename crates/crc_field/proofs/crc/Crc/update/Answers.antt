@@ -1,22 +1,25 @@
-use Rattle.std.proofs.Common.{◌≡◌, ◌∙◌, refl, ap, sym, get_or, take}
-use Rattle.std.proofs.lemmas.List.{take_all}
-use Rattle.crc_field.specs.Crc.{message_bits, remainder_after, low_bits}
-use Rattle.crc_field.proofs.Division.{one_more, remainder_of-append}
+use Rattle.std.proofs.Common.{◌∙◌, ◌+◌, ap, sym, drop, arith}
+use Rattle.std.proofs.lemmas.List.Folds.{drop_split}
+use Rattle.std.specs.List.{slice_range}
+use Rattle.crc_field.specs.Crc.{message_bits, remainder_after}
+use Rattle.crc_field.proofs.Division.{two_pieces}
 use Rattle.crc_field.proofs.crc.Crc.update.Goals as goal
 
-pub loop-byte-init : goal.loop-byte-init
-unfolding message_bits remainder_after
-loop-byte-init c = refl
-
-pub loop-byte-preserved : goal.loop-byte-preserved
-loop-byte-preserved c =
-    c.after_byte-remainder.ensures
-    ∙ ap (λ r. remainder_after r (low_bits 8 (get_or c.args.bytes.now c.loop-byte.byte-index 0))) c.loop-byte.invariant
-    ∙ one_more c.self.inside.remainder c.args.bytes.now c.loop-byte.byte-index c.loop-byte-test.true
+pub loop-at-preserved : goal.loop-at-preserved
+loop-at-preserved c =
+    let bytes = c.args.bytes.now in
+    let at = c.loop-at.at in
+    let r = c.loop-at.remainder in (
+      omega arith,
+      ap (λ t. remainder_after t (message_bits (drop (at + 16) bytes))) c.after_block-remainder.ensures
+          ∙ sym (two_pieces r (slice_range bytes at (at + 16)) (drop (at + 16) bytes))
+          ∙ ap (λ l. remainder_after r (message_bits l)) (sym (drop_split bytes at (at + 16) (omega arith)))
+          ∙ c.loop-at.invariant.1,
+    )
 
 pub returns : goal.returns
 returns c = λ before is.
-    let whole : take c.loop-byte.byte-index c.args.bytes.now ≡ c.args.bytes.now = take_all c.loop-byte.byte-index c.args.bytes.now c.loop-byte-test.false in
-    c.loop-byte.invariant ∙ ap (λ l. remainder_after c.self.inside.remainder (message_bits l)) whole
-    ∙ ap (λ r. remainder_after r (message_bits c.args.bytes.now)) (c.self.view_is ∙ is)
-    ∙ sym (remainder_of-append before c.args.bytes.now)
+    let bytes = c.args.bytes.now in
+    c.after_words-self-inside.ensures ∙ c.loop-at.invariant.1
+    ∙ ap (λ r. remainder_after r (message_bits bytes)) (c.self.view_is ∙ is)
+    ∙ sym (two_pieces 0xFFFFFFFF before bytes)

@@ -1,6 +1,10 @@
-use Rattle.std.proofs.Common.{◌≡◌, take}
+use Rattle.std.proofs.Common.{◌≡◌, ◌≤◌, ◌-◌, drop, length}
 use Rattle.crc_field.specs.Crc.{message_bits, remainder_after}
 use Rattle.crc_field.proofs.crc.Crc.update.Given as goal
 
-abbrev pub invariant-loop-byte : goal.invariant-loop-byte
-invariant-loop-byte l = l.remainder ≡ remainder_after l.initial.remainder (message_bits (take l.byte-index l.bytes))
+abbrev pub invariant-loop-at : goal.invariant-loop-at
+invariant-loop-at l =
+    (l.at ≤ length l.bytes) × (remainder_after l.remainder (message_bits (drop l.at l.bytes)) ≡ remainder_after l.initial.remainder (message_bits l.bytes))
+
+abbrev pub decreases-loop-at : goal.decreases-loop-at
+decreases-loop-at l = length l.bytes - l.at

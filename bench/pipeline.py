@@ -1,0 +1,157 @@
+#!/usr/bin/env python3
+"""Whole runs of a pipeline core over 262,144 segments and over half as many, on 64 links with 32 segments outstanding on each: all
+arrive; the first of two servers has none, and the second is its fallback; each of two servers has every second one. Prints the
+time of each, and how many times as long twice as many segments take, which is to be at most 2.2. It builds a program of its own over copies of
+ub_base and pipeline_core, and of the calls in pipeline_rows that keep the core's conditions, in a folder that it removes."""
+
+import os
+import shutil
+import subprocess
+import sys
+import tempfile
+
+ROOT = os.path.dirname(os.path.dirname(os.path.abspath(__file__)))
+TRIES = 3
+GREATEST_RATIO = 2.2
+CRATES = "ub_base: thiserror\npipeline_core: ub_base circular_buffer\npipeline_bench: ub_base pipeline_core\n"
+MAIN = """//! Times whole runs of `next` and `reply`.
+#![tactic(auto)]
+
+mod trial;
+
+use crate::trial::Trial;
+use pipeline_core::Outcome;
+use std::io;
+use std::time::Instant;
+
+/// Which servers have which segments.
+#[derive(Clone, Copy, PartialEq, Eq)]
+enum Holdings {
+    All,
+    FallbackAlone,
+    EverySecond,
+}
+
+fn outcome_of(holdings: Holdings, link: u32, segment: u32) -> Outcome {
+    let here = match holdings {
+        Holdings::All => true,
+        Holdings::FallbackAlone => link % 2 == 1,
+        Holdings::EverySecond => (link ^ segment) % 2 == 0,
+    };
+    if here { Outcome::Arrived } else { Outcome::NotHere }
+}
+
+fn fill(trial: &mut Trial) {
+    for link in 0..64u32 {
+        for _ in 0..33u32 {
+            if trial.ask(link).is_none() {
+                break;
+            }
+        }
+    }
+}
+
+fn answer(trial: &mut Trial, holdings: Holdings, link: u32) -> u64 {
+    let segment = match trial.oldest(link) {
+        Some(segment) => segment,
+        None => return 0,
+    };
+    trial.answer(link, outcome_of(holdings, link, segment));
+    trial.ask(link);
+    1
+}
+
+fn run(rt: &HostRuntime, name: &str, holdings: Holdings, segments: u32) -> io::Result<()> {
+    let mut server_of_link = [0u32; 64];
+    for link in 0..64usize {
+        server_of_link[link] = (link % 2) as u32;
+    }
+    let level = if holdings == Holdings::FallbackAlone { 1u8 } else { 0u8 };
+    let levels = [0u8, level];
+    let start = Instant::now(rt)?;
+    let mut trial = match Trial::new(rt.alloc(), &server_of_link, &levels, segments, 32) {
+        Some(trial) => trial,
+        None => return Ok(()),
+    };
+    for link in 0..64u32 {
+        trial.greet(link);
+    }
+    fill(&mut trial);
+    let mut answers = 0u64;
+    for _ in 0..1000000u32 {
+        if trial.finished() {
+            break;
+        }
+        for link in 0..64u32 {
+            answers = answers.wrapping_add(answer(&mut trial, holdings, link));
+        }
+    }
+    let time = start.elapsed(rt)?.as_nanos();
+    let good = trial.finished();
+    println!(rt; "{name} {segments} {good} {answers} {time}")?;
+    Ok(())
+}
+
+fn main(rt: HostRuntime) -> io::Result<()> {
+    for segments in [131072u32, 262144] {
+        run(&rt, "all", Holdings::All, segments)?;
+        run(&rt, "fallback", Holdings::FallbackAlone, segments)?;
+        run(&rt, "halves", Holdings::EverySecond, segments)?;
+    }
+    Ok(())
+}
+"""
+
+
+def build(folder):
+    """The program, built in the folder."""
+    crates = os.path.join(folder, "crates")
+    for crate in ("ub_base", "pipeline_core"):
+        for part in ("src", "specs", "proofs"):
+            shutil.copytree(os.path.join(ROOT, "crates", crate, part), os.path.join(crates, crate, part))
+    rows = os.path.join(ROOT, "crates", "pipeline_rows")
+    home = os.path.join(crates, "pipeline_bench")
+    shutil.copytree(os.path.join(rows, "proofs"), os.path.join(home, "proofs"))
+    os.makedirs(os.path.join(home, "src"))
+    shutil.copy(os.path.join(rows, "src", "trial.rt"), os.path.join(home, "src"))
+    for place, _, names in os.walk(os.path.join(home, "proofs")):
+        for name in names:
+            with open(os.path.join(place, name), encoding="utf-8") as file:
+                text = file.read()
+            with open(os.path.join(place, name), "w", encoding="utf-8") as file:
+                file.write(text.replace("Rattle.pipeline_rows.", "Rattle.pipeline_bench."))
+    with open(os.path.join(folder, "crates.txt"), "w") as file:
+        file.write(CRATES)
+    with open(os.path.join(home, "src", "main.rt"), "w") as file:
+        file.write(MAIN)
+    built = subprocess.run(["rt", "run"], cwd=home, capture_output=True, text=True)
+    if built.returncode != 0:
+        sys.exit(built.stdout + built.stderr)
+    return os.path.join(home, "out", "pipeline_bench")
+
+
+def measure(program):
+    """The least times of some runs, by what is run and the number of segments."""
+    least = {}
+    for _ in range(TRIES):
+        run = subprocess.run([program], capture_output=True, text=True, check=True)
+        for row in run.stdout.splitlines():
+            name, segments, good, _, time = row.split()
+            if good != "true":
+                sys.exit(f"{name} didn't finish")
+            key = (name, int(segments))
+            least[key] = min(int(time), least.get(key, int(time)))
+    return least
+
+
+def main():
+    with tempfile.TemporaryDirectory() as folder:
+        least = measure(build(folder))
+    for name in ("all", "fallback", "halves"):
+        half, whole = least[name, 131072], least[name, 262144]
+        print(f"{name}: {whole / 1e9:.3f} s, {whole / half:.2f} times as long as half of it")
+        if whole > GREATEST_RATIO * half:
+            sys.exit(f"{name}: more than {GREATEST_RATIO} times as long")
+
+
+main()

@@ -1,0 +1,56 @@
+// Calls that are made where their conditions hold.
+use range_assembler::{Assembler, Clash, Hold, OtherSize};
+
+/// What `claim` answers, or nothing where the segment has a range or the range is none.
+pub(crate) fn claim(
+    assembler: &mut Assembler,
+    segment: u32,
+    first: u64,
+    last: u64,
+) -> Option<Result<(), Clash>> {
+    if first < 1 || last > 1 << 40 || first > last + 1 {
+        return None;
+    }
+    match assembler.entry(segment) {
+        Some(entry) => match entry.hold {
+            Hold::Free => Some(assembler.claim(segment, first, last)),
+            _ => None,
+        },
+        None => None,
+    }
+}
+
+/// What `accept` answers, or nothing where the segment has no held range that ends within the size.
+pub(crate) fn accept(
+    assembler: &mut Assembler,
+    segment: u32,
+    size: u64,
+) -> Option<Result<(), OtherSize>> {
+    match assembler.entry(segment) {
+        Some(entry) => match entry.hold {
+            Hold::Held => {
+                if entry.last <= size {
+                    Some(assembler.accept(segment, size))
+                } else {
+                    None
+                }
+            }
+            _ => None,
+        },
+        None => None,
+    }
+}
+
+/// Whether the segment had a held range, which is given up.
+pub(crate) fn release(assembler: &mut Assembler, segment: u32) -> bool {
+    match assembler.entry(segment) {
+        Some(entry) => match entry.hold {
+            Hold::Held => {
+                assembler.release(segment);
+                true
+            }
+            _ => false,
+        },
+        None => false,
+    }
+}

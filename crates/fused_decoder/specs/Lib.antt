@@ -1,0 +1,17 @@
+pub use Rattle.crc_field.specs.Crc
+pub use Rattle.dot_blocks.specs.Blocks
+pub use Rattle.yenc_bytes.specs.DataLine
+pub use Rattle.yenc_bytes.specs.DataLineReading
+pub use Rattle.yenc_lines.specs.Keywords
+pub use Rattle.yenc_body.specs.Body
+pub use Rattle.yenc_body.specs.BodyReading
+pub use Rattle.yenc_body.specs.FirstFault
+pub mod HeardLine
+pub mod CertainBytes
+pub mod DataGiven
+pub mod Remainder
+pub mod Machine
+pub mod Stands
+pub mod Steps
+pub mod Pieces
+pub mod Laws

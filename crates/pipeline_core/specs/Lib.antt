@@ -1,0 +1,7 @@
+pub mod LinkAt
+pub mod SegmentAt
+pub mod Links
+pub mod PipelineAt
+pub mod Searches
+pub mod Pipeline
+pub mod Sound

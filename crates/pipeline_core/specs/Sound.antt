@@ -1,0 +1,57 @@
+-- What is true of every core.
+use Rattle.std.specs.Prelude.{◌≡◌, ◌≢◌, ◌<◌, ◌≤◌, ℕ, true, false, List, Option, Some, None, length, slice_get}
+use Rattle.pipeline_core.specs.LinkAt.{LinkAt}
+use Rattle.pipeline_core.specs.Links.{times_asked, holder}
+use Rattle.pipeline_core.specs.SegmentAt.{SegmentAt}
+use Rattle.pipeline_core.specs.declared.state.Outcome.{Outcome}
+use Rattle.pipeline_core.specs.declared.state.Outcome.TheVariants.{NotHere}
+use Rattle.pipeline_core.specs.PipelineAt.{Pipeline}
+use Rattle.pipeline_core.specs.Pipeline.{can_be_asked, segment_state, is_decided, unanswered}
+use Rattle.pipeline_core.specs.Searches.{is_arrived_at}
+
+-- a segment is outstanding once at most, on one link, and none that has arrived is
+pub record IsExclusive (links : List LinkAt) (segments : List SegmentAt) : Type 0 where
+  pub once : (segment : ℕ) → times_asked links segment ≤ 1
+  pub none_arrived : (segment : ℕ) → is_arrived_at (slice_get segments segment) ≡ true → times_asked links segment ≡ 0
+  pub within : (segment : ℕ) → length segments ≤ segment → times_asked links segment ≡ 0
+
+pub record IsLimited (links : List LinkAt) (segments : List SegmentAt) (levels : List ℕ) (depth : ℕ) : Type 0 where
+  pub few_servers : length levels ≤ 16
+  pub few_links : length links ≤ 64
+  pub few_segments : length segments ≤ 262144
+  pub small_depth : depth ≤ 32
+  pub each : (k : ℕ) (link : LinkAt) → slice_get links k ≡ Some link → (link.server < length levels) × (length link.asked ≤ depth)
+
+pub record IsHeldBy (links : List LinkAt) (segments : List SegmentAt) (holders : List (Option ℕ)) : Type 0 where
+  pub same : length holders ≡ length segments
+  pub each : (segment : ℕ) → segment < length segments → slice_get holders segment ≡ Some (holder links segment)
+
+pub record IsSound (links : List LinkAt) (segments : List SegmentAt) (holders : List (Option ℕ)) (levels : List ℕ) (depth : ℕ) : Type 0 where
+  pub exclusive : IsExclusive links segments
+  pub limited : IsLimited links segments levels depth
+  pub held : IsHeldBy links segments holders
+
+-- the places at which searches begin: a server can be asked for no segment below its own, be they answered, not open, or held
+-- back for a server of a lower level; none from `fresh` on was asked for; and each below `decided` is decided
+pub record IsPlaced (p : Pipeline) (lows : List ℕ) (fresh decided : ℕ) : Type 0 where
+  pub as_many : length lows ≡ 16
+  pub marks : (segment : ℕ) (known : SegmentAt) → slice_get p.segments segment ≡ Some known → length known.answered ≡ 16
+  pub closed : (server low segment : ℕ) → slice_get lows server ≡ Some low → segment < low → can_be_asked p server segment ≡ false
+  pub unasked : (segment : ℕ) → fresh ≤ segment → segment < length p.segments → (holder p.links segment ≡ None) × (slice_get p.segments segment ≡ Some unanswered)
+  pub all_decided : (segment : ℕ) → segment < decided → is_decided (segment_state p segment) ≡ true
+
+-- what a server's place is after a segment was answered by another one: no higher than it was, and where the segment didn't
+-- arrive, at most at the segment
+pub record HasFallen (lows : List ℕ) (server segment : ℕ) (outcome : Outcome) (other low : ℕ) : Type 0 where
+  pub was : ℕ
+  pub before : slice_get lows other ≡ Some was
+  pub kept : low ≤ was
+  pub fell : outcome ≡ NotHere → other ≢ server → low ≤ segment
+
+pub record IsKept (p : Pipeline) (holders : List (Option ℕ)) (lows : List ℕ) (fresh decided : ℕ) : Type 0 where
+  pub sound : IsSound p.links p.segments holders p.levels p.depth
+  pub placed : IsPlaced p lows fresh decided
+
+pub record IsWhole (p : Pipeline) : Type 0 where
+  pub exclusive : IsExclusive p.links p.segments
+  pub limited : IsLimited p.links p.segments p.levels p.depth

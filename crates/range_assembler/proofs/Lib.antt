@@ -1,0 +1,10 @@
+pub mod Places
+pub mod Scanning
+pub mod Gaps
+pub mod Holds
+mod SetLaws
+mod Edits
+mod Ordering
+mod Changes
+mod SidesLaws
+mod Kept

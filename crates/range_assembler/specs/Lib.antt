@@ -1,0 +1,9 @@
+pub mod Entries
+pub mod Claims
+pub mod Missing
+pub mod Sound
+pub mod Sets
+pub mod Before
+pub mod Sequence
+pub mod Order
+pub mod Sides

@@ -1,0 +1,9 @@
+//! The ranges of a file's parts: which are held, which are accepted, and which offsets are missing.
+#![tactic(auto)]
+
+mod assembler;
+mod order;
+mod scans;
+mod sequence;
+
+pub use assembler::{Assembler, Clash, Entry, Hold, OtherSize};

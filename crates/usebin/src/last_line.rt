@@ -1,0 +1,87 @@
+// Standard error, and the line that was said last.
+
+use ub_base::{ErrSink, Failed, Sink};
+
+// The longest line that is kept. No line of a status is longer.
+const LONGEST: usize = 256;
+
+/// Standard error. The line that was said last is kept, to be explained.
+#[derive(Drop)]
+pub(crate) struct LastLine<R: Print + Drop> {
+    sink: ErrSink<R>,
+    kept: KeptLine,
+    has_failed: bool,
+}
+
+// A line, as far as it came.
+#[derive(Clone, Copy)]
+struct KeptLine {
+    bytes: [u8; LONGEST],
+    len: usize,
+    // Whether the next byte begins another line.
+    is_ended: bool,
+}
+
+impl<R: Print + Drop> LastLine<R> {
+    /// Writes to standard error. Nothing was said yet.
+    pub(crate) fn new(sink: ErrSink<R>) -> Self {
+        LastLine {
+            sink,
+            kept: KeptLine {
+                bytes: [0; LONGEST],
+                len: 0,
+                is_ended: true,
+            },
+            has_failed: false,
+        }
+    }
+
+    /// The line that was said last, without its end, or `None` where a write failed.
+    pub(crate) fn line(&self) -> Option<&str> {
+        if self.has_failed {
+            return None;
+        }
+        str::from_utf8(self.kept.bytes.get(..self.kept.len)?).ok()
+    }
+}
+
+impl KeptLine {
+    fn keep(&mut self, bytes: &[u8]) {
+        for byte in bytes {
+            self.keep_byte(*byte);
+        }
+    }
+
+    // Keeps a byte that was said, unless the line has too many.
+    fn keep_byte(&mut self, byte: u8) {
+        if self.is_ended {
+            self.len = 0;
+            self.is_ended = false;
+        }
+        if byte == b'\n' {
+            self.is_ended = true;
+        } else if self.len < LONGEST {
+            self.bytes[self.len] = byte;
+            self.len += 1;
+        }
+    }
+}
+
+impl<R: Print + Drop> Sink for LastLine<R> {
+    ghost faults = { λ s. ⟦<ErrSink<R> as Sink>⟧.faults s.sink };
+
+    ghost told = { λ s. ⟦<ErrSink<R> as Sink>⟧.told s.sink };
+
+    fn write(&mut self, bytes: &[u8]) -> Result<usize, Failed> {
+        match self.sink.write(bytes) {
+            Ok(n) => {
+                self.kept.keep(&bytes[..n]);
+                Ok(n)
+            }
+            Err(failed) => {
+                self.has_failed = true;
+                Err(failed)
+            }
+        }
+    }
+}
