@@ -250,7 +250,10 @@ fn main(rt: HostRuntime) -> io::Result<()> {
     let Ok(mut block) = vec![in rt.alloc(); 0u8; 2 * LEN] else {
         return Ok(());
     };
-    let len = read_block(&rt, &mut block)?;
+    // Where it is built there is no block, and nothing is measured.
+    let Ok(len) = read_block(&rt, &mut block) else {
+        return Ok(());
+    };
     let Ok(mut text) = vec![in rt.alloc(); 0u8; LEN] else {
         return Ok(());
     };

@@ -51,14 +51,17 @@ fn fill(trial: &mut Trial) {
     }
 }
 
+// Answers the oldest segment of a link, and asks the link for the next one.
 fn answer(trial: &mut Trial, holdings: Holdings, link: u32) -> u64 {
-    let segment = match trial.oldest(link) {
-        Some(segment) => segment,
-        None => return 0,
+    let answers = match trial.oldest(link) {
+        Some(segment) => {
+            trial.answer(link, outcome_of(holdings, link, segment));
+            1
+        }
+        None => 0,
     };
-    trial.answer(link, outcome_of(holdings, link, segment));
     trial.ask(link);
-    1
+    answers
 }
 
 fn run(rt: &HostRuntime, name: &str, holdings: Holdings, segments: u32) -> io::Result<()> {
@@ -79,11 +82,12 @@ fn run(rt: &HostRuntime, name: &str, holdings: Holdings, segments: u32) -> io::R
     fill(&mut trial);
     let mut answers = 0u64;
     for _ in 0..1000000u32 {
-        if trial.finished() {
-            break;
-        }
+        let before = answers;
         for link in 0..64u32 {
             answers = answers.wrapping_add(answer(&mut trial, holdings, link));
+        }
+        if trial.finished() || answers == before {
+            break;
         }
     }
     let time = start.elapsed(rt)?.as_nanos();

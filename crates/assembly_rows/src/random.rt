@@ -148,7 +148,7 @@ fn shows(assembler: &Assembler, marks: &Marks) -> bool {
 #[test]
 fn calls_at_random_agree_with_marks(rt: HostRuntime) -> Result<(), Fail> {
     let mut seed: u64 = 88172645463325252;
-    for round in 0..100u32 {
+    for round in 0..2000u32 {
         let mut assembler = Assembler::new(rt.alloc(), &[SEGMENTS as u32])?;
         let mut marks = Marks {
             holder: [NOBODY; 66],

@@ -15,6 +15,7 @@ pub record IsExclusive (links : List LinkAt) (segments : List SegmentAt) : Type 
   pub none_arrived : (segment : ℕ) → is_arrived_at (slice_get segments segment) ≡ true → times_asked links segment ≡ 0
   pub within : (segment : ℕ) → length segments ≤ segment → times_asked links segment ≡ 0
 
+-- the limits, and that each link's server is one of the servers
 pub record IsLimited (links : List LinkAt) (segments : List SegmentAt) (levels : List ℕ) (depth : ℕ) : Type 0 where
   pub few_servers : length levels ≤ 16
   pub few_links : length links ≤ 64
@@ -22,10 +23,12 @@ pub record IsLimited (links : List LinkAt) (segments : List SegmentAt) (levels :
   pub small_depth : depth ≤ 32
   pub each : (k : ℕ) (link : LinkAt) → slice_get links k ≡ Some link → (link.server < length levels) × (length link.asked ≤ depth)
 
+-- a link is kept beside each segment that is outstanding
 pub record IsHeldBy (links : List LinkAt) (segments : List SegmentAt) (holders : List (Option ℕ)) : Type 0 where
   pub same : length holders ≡ length segments
   pub each : (segment : ℕ) → segment < length segments → slice_get holders segment ≡ Some (holder links segment)
 
+-- what the lists that a core keeps are
 pub record IsSound (links : List LinkAt) (segments : List SegmentAt) (holders : List (Option ℕ)) (levels : List ℕ) (depth : ℕ) : Type 0 where
   pub exclusive : IsExclusive links segments
   pub limited : IsLimited links segments levels depth
@@ -48,10 +51,12 @@ pub record HasFallen (lows : List ℕ) (server segment : ℕ) (outcome : Outcome
   pub kept : low ≤ was
   pub fell : outcome ≡ NotHere → other ≢ server → low ≤ segment
 
+-- what is true of a core, the places included
 pub record IsKept (p : Pipeline) (holders : List (Option ℕ)) (lows : List ℕ) (fresh decided : ℕ) : Type 0 where
   pub sound : IsSound p.links p.segments holders p.levels p.depth
   pub placed : IsPlaced p lows fresh decided
 
+-- what a caller can know of each core
 pub record IsWhole (p : Pipeline) : Type 0 where
   pub exclusive : IsExclusive p.links p.segments
   pub limited : IsLimited p.links p.segments p.levels p.depth

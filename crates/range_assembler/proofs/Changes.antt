@@ -1,22 +1,21 @@
 -- What a change of one entry makes of the order.
-use Rattle.std.proofs.Common.{◌≡◌, ◌≢◌, ◌+◌, ◌-◌, ◌<◌, ◌≤◌, ◌⊎◌, inl, inr, zero, suc, ℕ, Bool, true, false, List, [], ◌∷◌, Option, Some, None, length, refl, ap, sym, subst, ◌∙◌, arith, set}
+use Rattle.std.proofs.Common.{◌≡◌, ◌≢◌, ◌+◌, ◌<◌, ◌≤◌, ◌⊎◌, inl, inr, zero, suc, ℕ, Bool, true, false, List, [], ◌∷◌, Some, length, refl, ap, sym, subst, ◌∙◌, arith, set}
 use Rattle.std.specs.Prelude.{slice_get, cond, insert, remove}
 use Rattle.std.proofs.lemmas.Bool.{cases_lt}
 use Rattle.range_assembler.specs.declared.assembler.Entry.{Entry}
 use Rattle.range_assembler.specs.declared.sequence.Range.{Range}
-use Rattle.range_assembler.specs.Before.{is_before, IsPlace}
 use Rattle.range_assembler.specs.Order.{Precedes, range_of, is_shown, count_shown, Stands, IsListed, IsOrder, IsAbsent}
 use Rattle.range_assembler.proofs.Places.{get-set_other, get-set_same, same_or_not}
-use Rattle.range_assembler.proofs.Ordering.{has_offset, within}
+use Rattle.range_assembler.proofs.Ordering.{has_offset}
 
-record IsPast {X : Type 0} (xs : List X) (p k : ℕ) (x : X) : Type 0 where
-  before : ℕ
-  next : k ≡ suc before
-  past : p ≤ before
-  there : slice_get xs before ≡ Some x
+pub record IsPast {X : Type 0} (xs : List X) (p k : ℕ) (x : X) : Type 0 where
+  pub before : ℕ
+  pub next : k ≡ suc before
+  pub past : p ≤ before
+  pub there : slice_get xs before ≡ Some x
 
 -- where an element of a list with one more comes from
-came : {X : Type 0} (xs : List X) (p : ℕ) (y : X) (k : ℕ) (x : X) → p ≤ length xs → slice_get (insert xs p y) k ≡ Some x → ((k < p) × (slice_get xs k ≡ Some x)) ⊎ (((k ≡ p) × (y ≡ x)) ⊎ IsPast xs p k x)
+pub came : {X : Type 0} (xs : List X) (p : ℕ) (y : X) (k : ℕ) (x : X) → p ≤ length xs → slice_get (insert xs p y) k ≡ Some x → ((k < p) × (slice_get xs k ≡ Some x)) ⊎ (((k ≡ p) × (y ≡ x)) ⊎ IsPast xs p k x)
 came xs zero y zero x low is = let same : y ≡ x = cc in inr (inl (refl, same))
 came xs zero y (suc k) x low is = inr (inr record { before = k; next = refl; past = omega arith; there = is })
 came [] (suc p) y k x low is = absurd (omega arith)
@@ -44,7 +43,7 @@ is_new [] (suc p) y low = absurd (omega arith)
 is_new (z ∷ xs) (suc p) y low = one_later z (insert xs p y) y (is_new xs p y (omega arith))
 
 -- where an element of a list with one less comes from
-left_over : {X : Type 0} (xs : List X) (p k : ℕ) (x : X) → slice_get (remove xs p) k ≡ Some x → ((k < p) × (slice_get xs k ≡ Some x)) ⊎ ((p ≤ k) × (slice_get xs (suc k) ≡ Some x))
+pub left_over : {X : Type 0} (xs : List X) (p k : ℕ) (x : X) → slice_get (remove xs p) k ≡ Some x → ((k < p) × (slice_get xs k ≡ Some x)) ⊎ ((p ≤ k) × (slice_get xs (suc k) ≡ Some x))
 left_over [] zero k x is = cc
 left_over [] (suc p) k x is = cc
 left_over (z ∷ xs) zero k x is = let low : 0 ≤ k = omega arith in inr (low, is)

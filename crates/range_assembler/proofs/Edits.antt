@@ -1,5 +1,6 @@
 -- Edits of a list that has an element between two sides.
-use Rattle.std.proofs.Common.{◌≡◌, ◌+◌, ◌-◌, ◌<◌, ◌≤◌, zero, suc, ℕ, List, [], ◌∷◌, ◌++◌, None, Some, length, refl, ap, sym, ◌∙◌, arith}
+use Rattle.std.proofs.Common.{◌≡◌, ◌-◌, ◌<◌, ◌≤◌, zero, suc, ℕ, List, [], ◌∷◌, ◌++◌, None, Some, length, refl, ap, ◌∙◌, arith}
+use Rattle.std.proofs.Common.{set}
 use Rattle.std.specs.Prelude.{insert, remove, slice_get}
 
 pub insert_left : {X : Type 0} (left : List X) (x : X) (right : List X) (i : ℕ) (y : X) → i ≤ length left → insert (left ++ x ∷ right) i y ≡ insert left i y ++ x ∷ right
@@ -39,3 +40,22 @@ length_remove [] zero = omega arith
 length_remove [] (suc i) = omega arith
 length_remove (x ∷ xs) zero = omega arith
 length_remove (x ∷ xs) (suc i) = let e : length (remove xs i) ≤ length xs = length_remove xs i in omega (arith, e)
+
+pub set_left : {X : Type 0} (left : List X) (x : X) (right : List X) (i : ℕ) (y : X) → i < length left → set (left ++ x ∷ right) i y ≡ set left i y ++ x ∷ right
+set_left [] x right i y low = absurd (omega arith)
+set_left (z ∷ left) x right zero y low = refl
+set_left (z ∷ left) x right (suc i) y low = ap (λ t. z ∷ t) (set_left left x right i y (omega arith))
+
+pub set_right : {X : Type 0} (left : List X) (x : X) (right : List X) (i : ℕ) (y : X) → length left < i → set (left ++ x ∷ right) i y ≡ left ++ x ∷ set right (i - length left - 1) y
+set_right left x right zero y low = absurd (omega arith)
+set_right [] x right (suc i) y low = ap (λ k. x ∷ set right k y) (let e : i ≡ suc i - 0 - 1 = omega arith in e)
+set_right (z ∷ left) x right (suc i) y low = ap (λ t. z ∷ t) (set_right left x right i y (omega arith)) ∙ ap (λ k. z ∷ left ++ x ∷ set right k y) (let e : i - length left - 1 ≡ suc i - length (z ∷ left) - 1 = omega arith in e)
+
+pub set_middle : {X : Type 0} (left : List X) (x : X) (right : List X) (y : X) → set (left ++ x ∷ right) (length left) y ≡ left ++ y ∷ right
+set_middle [] x right y = refl
+set_middle (z ∷ left) x right y = ap (λ t. z ∷ t) (set_middle left x right y)
+
+pub length_set : {X : Type 0} (xs : List X) (i : ℕ) (y : X) → length (set xs i y) ≡ length xs
+length_set [] i y = refl
+length_set (x ∷ xs) zero y = refl
+length_set (x ∷ xs) (suc i) y = ap (λ n. suc n) (length_set xs i y)

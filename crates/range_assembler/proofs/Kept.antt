@@ -1,5 +1,5 @@
 -- What a change of one entry keeps of the order and the sizes.
-use Rattle.std.proofs.Common.{◌≡◌, ◌≢◌, ◌+◌, ◌-◌, ◌<◌, ◌≤◌, ◌^◌, ◌⊎◌, inl, inr, zero, suc, ℕ, Bool, true, false, List, [], ◌∷◌, ◌++◌, Option, Some, None, length, replicate, refl, ap, sym, subst, ◌∙◌, arith, set, length-set}
+use Rattle.std.proofs.Common.{◌≡◌, ◌≢◌, ◌+◌, ◌<◌, ◌≤◌, ◌^◌, ◌⊎◌, inl, inr, zero, suc, ℕ, Bool, true, false, List, [], ◌∷◌, ◌++◌, Option, Some, None, length, replicate, refl, ap, sym, subst, ◌∙◌, arith, set, length-set}
 use Rattle.std.proofs.Math.ListN.{length-replicate}
 use Rattle.std.specs.Prelude.{slice_get, cond, nat_le, ◌==◌, insert, remove}
 use Rattle.std.proofs.lemmas.Bool.Decides.{nat_tests}
@@ -8,16 +8,16 @@ use Rattle.range_assembler.specs.declared.assembler.Entry.{Entry}
 use Rattle.range_assembler.specs.declared.assembler.Hold.{Hold}
 use Rattle.range_assembler.specs.declared.assembler.Hold.TheVariants.{Free, Held, Accepted}
 use Rattle.range_assembler.specs.declared.sequence.Range.{Range}
-use Rattle.range_assembler.specs.Before.{is_before, IsPlace}
+use Rattle.range_assembler.specs.Before.{IsPlace}
 use Rattle.range_assembler.specs.Claims.{is_free, is_held}
 use Rattle.range_assembler.specs.Entries.{least_clash, shares, is_taken, is_accepted, kept_size, size_here, free_entry, entries_of}
-use Rattle.range_assembler.specs.Order.{Precedes, range_of, is_shown, count_shown, Stands, IsOrder, IsAbsent, IsIndexed, with_range, without_place, size_read}
+use Rattle.range_assembler.specs.Order.{range_of, is_shown, count_shown, IsOrder, IsAbsent, IsIndexed, with_range, without_place, size_read}
 use Rattle.range_assembler.specs.Sound.{IsSound}
 use Rattle.range_assembler.proofs.Holds.{sound-set, sound-start, free_in, fits-claim, fits-accept, fits-release}
 use Rattle.range_assembler.proofs.Places.{get-set_other, get-set_same, same_or_not}
 use Rattle.range_assembler.proofs.Scanning.{no_clash, kept_is, kept_none}
 use Rattle.range_assembler.proofs.SetLaws.{shared}
-use Rattle.range_assembler.proofs.Ordering.{not_before, before_means, earlier_before, reaches, below_place, from_place, leads, some_at, within, has_offset, shown_means, some_shown}
+use Rattle.range_assembler.proofs.Ordering.{not_before, before_means, reaches, below_place, from_place, leads, some_at, within, has_offset, shown_means}
 use Rattle.range_assembler.proofs.Changes.{absent, order-hidden, order-kept, order-insert, order-remove, count-set, count-upto, one_if}
 
 same_length : {X : Type 0} (xs : List X) (i : ℕ) (x : X) → length (set xs i x) ≡ length xs

@@ -8,3 +8,7 @@ mod Ordering
 mod Changes
 mod SidesLaws
 mod Kept
+mod Walk
+mod Carving
+mod Carved
+mod Gapped

@@ -1,6 +1,6 @@
 -- What stands in an order of ranges, and what a change of one entry makes of it.
-use Rattle.std.proofs.Common.{◌≡◌, ◌≢◌, ◌+◌, ◌-◌, ◌<◌, ◌≤◌, ◌⊎◌, inl, inr, zero, suc, ℕ, Bool, true, false, ◌&&◌, ◌||◌, List, [], ◌∷◌, Option, Some, None, length, refl, ap, sym, subst, ◌∙◌, arith, set}
-use Rattle.std.specs.Prelude.{slice_get, cond, nat_lt, nat_le, ◌==◌, insert, remove}
+use Rattle.std.proofs.Common.{◌≡◌, ◌+◌, ◌-◌, ◌<◌, ◌≤◌, ◌⊎◌, inl, inr, zero, suc, ℕ, Bool, true, false, ◌&&◌, ◌||◌, List, [], ◌∷◌, Option, Some, None, length, refl, ap, sym, subst, ◌∙◌, arith}
+use Rattle.std.specs.Prelude.{slice_get, cond, nat_lt, nat_le, ◌==◌}
 use Rattle.std.proofs.lemmas.Bool.Decides.{nat_tests}
 use Rattle.std.proofs.lemmas.Bool.{cases_lt}
 use Rattle.std.proofs.lemmas.Option.{slice_get_past}
@@ -9,11 +9,10 @@ use Rattle.range_assembler.specs.declared.assembler.Clash.{Clash}
 use Rattle.range_assembler.specs.declared.sequence.Range.{Range}
 use Rattle.range_assembler.specs.Before.{is_before, IsPlace}
 use Rattle.range_assembler.specs.Entries.{least_clash, shares, is_taken}
-use Rattle.range_assembler.specs.Order.{Precedes, range_of, is_shown, count_shown, Stands, IsListed, IsOrder, clash_with, IsAbsent}
-use Rattle.range_assembler.specs.Sets.{Takes}
-use Rattle.range_assembler.proofs.Places.{get-set_other, get-set_same, same_or_not}
+use Rattle.range_assembler.specs.Order.{Precedes, range_of, is_shown, Stands, IsOrder, clash_with}
+use Rattle.range_assembler.proofs.Places.{same_or_not}
 use Rattle.range_assembler.proofs.Scanning.{both, no_clash}
-use Rattle.range_assembler.proofs.SetLaws.{shared, shared_means, Found, found_of}
+use Rattle.range_assembler.proofs.SetLaws.{shared, shared_means, found_of}
 
 -- what stands before an offset
 pub means_before : (file offset : ℕ) (range : Range) → range.file ≡ file → range.last < offset → is_before file offset range ≡ true

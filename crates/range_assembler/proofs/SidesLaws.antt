@@ -1,8 +1,8 @@
 -- The sides of nodes, after a change.
-use Rattle.std.proofs.Common.{◌≡◌, ◌≢◌, ◌<◌, ◌≤◌, inl, inr, zero, suc, ℕ, List, [], ◌∷◌, ◌++◌, Option, Some, None, length, refl, ap, sym, subst, ◌∙◌, arith, set}
+use Rattle.std.proofs.Common.{◌≡◌, ◌≤◌, inl, inr, zero, suc, ℕ, List, [], ◌∷◌, ◌++◌, Option, Some, None, length, ap, sym, subst, ◌∙◌, set}
 use Rattle.std.specs.Prelude.{slice_get, insert, remove}
 use Rattle.range_assembler.specs.declared.sequence.Range.{Range}
-use Rattle.range_assembler.specs.Sides.{HasSegment, HaveSides, AllSome}
+use Rattle.range_assembler.specs.Sides.{HaveSides, AllSome}
 use Rattle.range_assembler.proofs.Places.{get-set_other, same_or_not}
 use Rattle.range_assembler.proofs.Changes.{stays, is_new, remains}
 

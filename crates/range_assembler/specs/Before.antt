@@ -1,5 +1,5 @@
 -- Which ranges stand before an offset of a file.
-use Rattle.std.specs.Prelude.{◌≡◌, ◌<◌, ◌≤◌, ◌+◌, ℕ, Bool, true, false, List, Some, length, ◌==◌, ◌&&◌, ◌||◌, nat_lt, slice_get}
+use Rattle.std.specs.Prelude.{◌≡◌, ◌≤◌, ◌+◌, ℕ, Bool, true, false, List, Some, length, ◌==◌, ◌&&◌, ◌||◌, nat_lt, slice_get}
 use Rattle.range_assembler.specs.declared.sequence.Range.{Range}
 
 -- a range of an earlier file, or one that ends before the offset

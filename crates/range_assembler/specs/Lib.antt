@@ -7,3 +7,4 @@ pub mod Before
 pub mod Sequence
 pub mod Order
 pub mod Sides
+pub mod Bare

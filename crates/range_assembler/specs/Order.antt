@@ -1,5 +1,5 @@
 -- The ranges of all files in order, and what they say of the entries.
-use Rattle.std.specs.Prelude.{zero, suc, ◌≡◌, ◌≢◌, ◌<◌, ◌≤◌, ◌⊎◌, ℕ, Bool, true, false, ◌&&◌, ◌==◌, List, [], ◌∷◌, Option, Some, None, length, nat_le, if◌then◌else◌, slice_get, insert, remove}
+use Rattle.std.specs.Prelude.{suc, ◌≡◌, ◌≢◌, ◌<◌, ◌⊎◌, ℕ, Bool, true, ◌&&◌, ◌==◌, List, [], ◌∷◌, Option, Some, None, length, nat_le, if◌then◌else◌, slice_get, insert, remove}
 use Rattle.range_assembler.specs.declared.assembler.Entry.{Entry}
 use Rattle.range_assembler.specs.declared.assembler.Clash.{Clash}
 use Rattle.range_assembler.specs.declared.sequence.Range.{Range}

@@ -1,5 +1,5 @@
 -- What a tree of ranges is seen as.
-use Rattle.std.specs.Prelude.{◌≡◌, ◌+◌, ◌<◌, ◌^◌, ℕ, List, [], ◌∷◌, ◌++◌, length}
+use Rattle.std.specs.Prelude.{◌≡◌, List, [], ◌∷◌, ◌++◌, length}
 use Rattle.range_assembler.specs.declared.sequence.Range.{Range}
 use Rattle.range_assembler.specs.declared.sequence.Node.{Node}
 use Rattle.range_assembler.specs.declared.sequence.Node.TheVariants.{Leaf, Fork}

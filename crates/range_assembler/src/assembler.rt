@@ -1,14 +1,16 @@
-// One entry for each segment of all files.
+// One entry for each segment of all files, an order of the ranges that they have, and one of the ranges that are missing.
 ghost use Rattle.std.specs.Prelude.{◌≡◌, ◌<◌, ◌≤◌, ◌+◌, ◌^◌, [], ℕ, true, false, length, sum, Some, Option, IfOk, IfErr, OnOk, OnErr, IsTrue, ◌↔◌, slice_get};
 ghost use Rattle.range_assembler.specs.Entries.{entries_of, least_clash, kept_size, with_claim, with_accept, with_release};
 ghost use Rattle.range_assembler.specs.Claims.{file_at, last_at, claim_answer, other_size, accept_answer, is_free_at, is_held_at};
 ghost use Rattle.range_assembler.specs.Missing.{missing_of, is_complete};
 ghost use Rattle.range_assembler.specs.Sets.{ShareNothing, IsApart, NamesLeast, IsWhole};
+ghost use Rattle.range_assembler.specs.Bare.{first_gaps};
 ghost use Rattle.range_assembler.specs.Order.{size_read};
 ghost use Rattle.range_assembler.specs.Sound.{IsSound};
 
+use crate::gap_list::{carve, fill, gap_at};
 use crate::order::{Order, clash_with, put, take_out};
-use crate::scans::{add_file, add_sizes, missing_range};
+use crate::scans::{add_file, add_sizes};
 use crate::sequence::Range;
 use std::alloc::Global;
 use std::marker::Model;
@@ -58,26 +60,29 @@ pub struct Entry {
 }
 
 /// The ranges of offsets that the segments of some files have. Segments are numbered through all files in order, from 0. Contracts
-/// see the list of entries. All memory is taken by `new`.
+/// see an entry for each segment. No call but `new` takes memory.
 #[derive(Drop)]
 pub struct Assembler {
     entries: Vec<Entry>,
     // The ranges that are held or accepted and aren't empty.
     order: Order,
+    // The ranges of each file that no accepted range has.
+    gaps: Order,
     // The size of each file of which a part is accepted.
     sizes: Vec<Option<u64>>,
 }
 
 impl Model for Assembler {
-    ghost use Rattle.std.specs.Prelude.{List};
+    ghost use Rattle.std.specs.Prelude.{List, length};
     ghost use Rattle.range_assembler.specs.declared.assembler.Entry.{Entry};
+    ghost use Rattle.range_assembler.specs.Bare.{IsGapped};
     ghost use Rattle.range_assembler.specs.Order.{IsIndexed};
 
     ghost Value = { List Entry };
 
     ghost view = { λ a. a.entries.items };
 
-    ghost invariant = { λ a. IsIndexed a.entries.items a.order a.sizes.items };
+    ghost invariant = { λ a. IsIndexed a.entries.items a.order a.sizes.items × IsGapped a.entries.items a.gaps (length a.sizes.items) };
 }
 
 impl Assembler {
@@ -94,9 +99,11 @@ impl Assembler {
         let mut sizes = Vec::new(alloc);
         add_sizes(&mut sizes, parts.len())?;
         let order = order_of(alloc, &entries)?;
+        let gaps = gaps_of(alloc, &entries, parts.len())?;
         Ok(Assembler {
             entries,
             order,
+            gaps,
             sizes,
         })
     }
@@ -157,6 +164,15 @@ impl Assembler {
                     first: entry.first,
                     last: entry.last,
                 };
+                let place = self.gaps.place(entry.file, entry.first);
+                let range = Range {
+                    file: entry.file,
+                    segment,
+                    first: entry.first,
+                    last: entry.last,
+                };
+                let gap = self.gaps.get(place);
+                carve(&mut self.gaps, place, gap, range);
                 Ok(())
             }
         }
@@ -214,7 +230,10 @@ impl Assembler {
         ensures { result ≡ missing_of file k self.now }
     {
         match self.size(file) {
-            Some(size) => missing_range(&self.entries, file, size, k),
+            Some(size) => {
+                let place = self.gaps.place(file, 1);
+                gap_at(&self.gaps, place, k, file, size)
+            }
             None => None,
         }
     }
@@ -227,6 +246,19 @@ fn order_of(alloc: Global, entries: &[Entry]) -> Result<Order, Memory>
     Order::new(alloc, entries.len())
 }
 
+// The gaps of so many files, with room for what each entry may cut off.
+fn gaps_of(alloc: Global, entries: &[Entry], files: usize) -> Result<Order, Memory>
+    requires few { length entries.now ≤ 262144 }
+    requires files { files ≤ 9999 }
+    ensures ranges { IfOk result (λ gaps. gaps.0 ≡ first_gaps (length entries.now) 0 files) }
+    ensures sides { IfOk result (λ gaps. gaps.1 ≡ length entries.now + files) }
+{
+    let mut gaps = Order::new(alloc, entries.len() + files)?;
+    fill(&mut gaps, entries.len() as u32, files as u32);
+    Ok(gaps)
+}
+
+// The size of a file, if there is such a file and its size is known.
 fn size_at(sizes: &[Option<u64>], file: u32) -> Option<u64>
     ensures { result ≡ size_read (slice_get sizes.now file) }
 {

@@ -2,6 +2,7 @@
 #![tactic(auto)]
 
 mod assembler;
+mod gap_list;
 mod order;
 mod scans;
 mod sequence;

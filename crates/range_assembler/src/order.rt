@@ -1,6 +1,6 @@
-// The ranges that are held or accepted and not empty, in order. All memory is taken at first: each segment has the sides of a
-// node, until its range is among them.
-ghost use Rattle.std.specs.Prelude.{◌≡◌, ◌<◌, ◌≤◌, ◌+◌, ◌^◌, [], true, ◌∷◌, ◌++◌, length, insert, remove, slice_get, Some, None, IfOk, IfSome, Option};
+// Ranges in order, each known by the number of a segment. All memory is taken at first: a number has the sides of a node until its
+// range is among them.
+ghost use Rattle.std.specs.Prelude.{◌≡◌, ◌<◌, ◌≤◌, ◌+◌, ◌^◌, [], true, length, set, insert, remove, slice_get, Some, IfOk};
 ghost use Rattle.range_assembler.specs.Before.{IsPlace};
 ghost use Rattle.range_assembler.specs.Order.{IsAbsent, clash_with, with_range, without_place};
 ghost use Rattle.range_assembler.specs.declared.sequence.Range.{Range};
@@ -11,11 +11,11 @@ use std::alloc::Global;
 use std::marker::Model;
 use ub_base::Memory;
 
-/// The ranges in order, and for each segment the boxes of a node while its range isn't among them. Contracts see the list of ranges
-/// and the number of segments.
+/// Ranges in order. Contracts see them, and the number of segments.
 #[derive(Drop)]
 pub struct Order {
     taken: Sequence,
+    // The two sides that a node needs, for each number that has no range.
     sides: Vec<Option<(Box<Sequence>, Box<Sequence>)>>,
 }
 
@@ -62,6 +62,24 @@ impl Order {
         ensures { result ≡ slice_get self.now.0 place }
     {
         self.taken.get(place)
+    }
+
+    /// How many ranges there are.
+    pub fn len(&self) -> u32
+        requires { length self.now.0 < 2 ^ 32 }
+        ensures { result ≡ length self.now.0 }
+    {
+        self.taken.len()
+    }
+
+    /// Puts a range of the same segment in the place of one.
+    pub fn set(&mut self, place: u32, range: Range)
+        requires place { place < length self.old.0 }
+        requires same { (old : Range) → slice_get self.old.0 place ≡ Some old → old.segment ≡ range.segment }
+        ensures ranges { self.new.0 ≡ set self.old.0 place range }
+        ensures sides { self.new.1 ≡ self.old.1 }
+    {
+        self.taken.set(place, range);
     }
 
     /// Puts the range of a segment that has none at a place.

@@ -1,5 +1,5 @@
-// Ranges in order, in a tree that is balanced by how many stand on either side.
-ghost use Rattle.std.specs.Prelude.{◌≡◌, ◌<◌, ◌≤◌, ◌+◌, ◌^◌, [], ◌∷◌, ◌++◌, length, insert, remove, slice_get, slice_set, slice_index_or};
+// Ranges in order, in a tree that is balanced by how many stand on either side. No proof needs the balance: it is for speed alone.
+ghost use Rattle.std.specs.Prelude.{◌≡◌, ◌<◌, ◌≤◌, ◌+◌, ◌^◌, [], ◌∷◌, ◌++◌, length, set, insert, remove, slice_get, slice_set, slice_index_or};
 ghost use Rattle.range_assembler.specs.Before.{is_before, IsPlace};
 ghost use Rattle.range_assembler.specs.Sequence.{ranges, IsCounted};
 ghost use Rattle.range_assembler.specs.declared.sequence.Node.TheVariants.{Fork};
@@ -16,8 +16,7 @@ pub struct Range {
     pub last: u64,
 }
 
-/// Ranges in the order of their files and offsets. Contracts see the list of them. No call takes memory: the boxes of a node come from
-/// the caller, and go back to it.
+/// A list of ranges that is read and changed at any place in logarithmic time.
 #[cycle(sequence)]
 #[derive(Drop)]
 pub struct Sequence {
@@ -58,10 +57,41 @@ fn is_before(file: u32, offset: u64, range: Range) -> bool
 }
 
 impl Sequence {
+    /// No range, without memory.
     pub fn new() -> Self
         ensures { result ≡ [] }
     {
         Sequence { node: Node::Leaf }
+    }
+
+    /// How many ranges there are.
+    pub fn len(&self) -> u32
+        requires { length self.now < 2 ^ 32 }
+        ensures { result ≡ length self.now }
+    {
+        match &self.node {
+            Node::Leaf => 0,
+            Node::Fork(_, before, _, after, _) => *before + 1 + *after,
+        }
+    }
+
+    /// Puts a range in the place of the one that stands there.
+    pub fn set(&mut self, place: u32, range: Range)
+        requires { place < length self.old }
+        ensures { self.new ≡ set self.old place range }
+    {
+        match &mut self.node {
+            Node::Leaf => unreachable!(),
+            Node::Fork(left, before, top, _, right) => {
+                if place < *before {
+                    left.set(place, range);
+                } else if *before < place {
+                    right.set(place - *before - 1, range);
+                } else {
+                    *top = range;
+                }
+            }
+        }
     }
 
     /// The range at a place, counted from 0.

@@ -1,4 +1,4 @@
-use Rattle.std.proofs.Common.{◌≡◌, sym, subst, true, arith, set}
+use Rattle.std.proofs.Common.{sym, subst}
 use Rattle.pipeline_core.specs.PipelineAt.{Pipeline}
 use Rattle.pipeline_rows.proofs.Known.{Known, known-next}
 use Rattle.pipeline_rows.proofs.trial.Trial.ask.Goals as goal

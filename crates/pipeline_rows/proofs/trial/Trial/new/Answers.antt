@@ -1,4 +1,4 @@
-use Rattle.std.proofs.Common.{◌≡◌, length, sym, subst, false, arith, replicate}
+use Rattle.std.proofs.Common.{length, sym, subst, false, arith, replicate}
 use Rattle.pipeline_core.specs.PipelineAt.{Pipeline}
 use Rattle.pipeline_rows.proofs.Known.{Known, known-start}
 use Rattle.pipeline_rows.proofs.trial.Trial.new.Goals as goal

@@ -7,11 +7,12 @@ use Rattle.range_assembler.specs.Entries.{with_hold}
 use Rattle.range_assembler.specs.Claims.{is_held_entry, is_held}
 use Rattle.range_assembler.proofs.Holds.{set-edit, place_within}
 use Rattle.range_assembler.proofs.Kept.{few, inside_release, segments_known, index-release}
+use Rattle.range_assembler.proofs.Gapped.{gapped-same, held_only}
 use Rattle.range_assembler.proofs.assembler.Assembler.release.Goals as goal
 
 pub place-place-requires : goal.place-place-requires
 place-place-requires c =
-    let low = few c.self.inside.entries.items c.self.inside.order c.self.inside.sizes.items c.self.invariant in omega (arith, low)
+    let low = few c.self.inside.entries.items c.self.inside.order c.self.inside.sizes.items c.self.invariant.0 in omega (arith, low)
 
 pub take_out-requires-clause-place : goal.take_out-requires-clause-place
 take_out-requires-clause-place c =
@@ -20,15 +21,15 @@ take_out-requires-clause-place c =
     let within : c.args.segment < length c.self.inside.entries.items = place_within is_held_entry c.self.inside.entries.items c.args.segment refl holds in
     let read : slice_get c.self.inside.entries.items c.args.segment ≡ Some c.index-entry.result.now = slice_get_read c.self.inside.entries.items (length c.self.inside.entries.items) c.args.segment c.index-entry.result.now refl within c.index-entry.ensures in
     let held : is_held c.index-entry.result.now.hold ≡ true = ap is_held_entry (sym read) ∙ holds in
-    λ test. inside_release c.self.inside.entries.items c.self.inside.order c.self.inside.sizes.items c.args.segment c.place-place.result c.index-entry.result.now c.self.invariant read held c.place-place.ensures test
+    λ test. inside_release c.self.inside.entries.items c.self.inside.order c.self.inside.sizes.items c.args.segment c.place-place.result c.index-entry.result.now c.self.invariant.0 read held c.place-place.ensures test
 
 pub take_out-requires-clause-few : goal.take_out-requires-clause-few
 take_out-requires-clause-few c =
-    let low = few c.self.inside.entries.items c.self.inside.order c.self.inside.sizes.items c.self.invariant in omega (arith, low)
+    let low = few c.self.inside.entries.items c.self.inside.order c.self.inside.sizes.items c.self.invariant.0 in omega (arith, low)
 
 pub take_out-requires-clause-known : goal.take_out-requires-clause-known
 take_out-requires-clause-known c =
-    λ range there. segments_known c.self.inside.entries.items c.self.inside.order c.self.inside.sizes.items c.place-place.result range c.self.invariant there
+    λ range there. segments_known c.self.inside.entries.items c.self.inside.order c.self.inside.sizes.items c.place-place.result range c.self.invariant.0 there
 
 pub invariant_of-self : goal.invariant_of-self
 invariant_of-self c =
@@ -36,8 +37,10 @@ invariant_of-self c =
     let holds : is_held_entry (slice_get c.self.inside.entries.items c.args.segment) ≡ true = ap (λ (t : List Entry). is_held_entry (slice_get t c.args.segment)) is ∙ c.requires in
     let within : c.args.segment < length c.self.inside.entries.items = place_within is_held_entry c.self.inside.entries.items c.args.segment refl holds in
     let read : slice_get c.self.inside.entries.items c.args.segment ≡ Some c.index-entry.result.now = slice_get_read c.self.inside.entries.items (length c.self.inside.entries.items) c.args.segment c.index-entry.result.now refl within c.index-entry.ensures in
-    let held : is_held c.index-entry.result.now.hold ≡ true = ap is_held_entry (sym read) ∙ holds in
-    index-release c.self.inside.entries.items c.self.inside.order c.take_out.new.order c.self.inside.sizes.items c.args.segment c.place-place.result c.index-entry.result.now c.self.invariant read held c.place-place.ensures c.take_out.ensures.ranges c.take_out.ensures.sides
+    let held : is_held c.index-entry.result.now.hold ≡ true = ap is_held_entry (sym read) ∙ holds in (
+      index-release c.self.inside.entries.items c.self.inside.order c.take_out.new.order c.self.inside.sizes.items c.args.segment c.place-place.result c.index-entry.result.now c.self.invariant.0 read held c.place-place.ensures c.take_out.ensures.ranges c.take_out.ensures.sides,
+      gapped-same c.self.inside.entries.items c.self.inside.gaps c.args.segment (length c.self.inside.sizes.items) c.index-entry.result.now _ c.self.invariant.1 read (held_only c.index-entry.result.now.hold held).1 refl,
+    )
 
 pub returns : goal.returns
 returns c =

@@ -10,8 +10,8 @@ use Rattle.range_assembler.proofs.assembler.Assembler.size.Goals as goal
 pub returns-clause-size : goal.returns-clause-size
 returns-clause-size c =
     c.size_at.ensures ∙ ap (λ (t : List (Option ℕ)). size_read (slice_get t c.args.file)) c.deref.ensures.value
-    ∙ sym (size_found c.self.inside.entries.items c.self.inside.order c.self.inside.sizes.items c.args.file c.self.invariant)
+    ∙ sym (size_found c.self.inside.entries.items c.self.inside.order c.self.inside.sizes.items c.args.file c.self.invariant.0)
     ∙ ap (kept_size c.args.file) c.self.view_is
 
 pub returns-clause-disjoint : goal.returns-clause-disjoint
-returns-clause-disjoint c = subst ShareNothing c.self.view_is (share_nothing c.self.inside.entries.items c.self.invariant.sound)
+returns-clause-disjoint c = subst ShareNothing c.self.view_is (share_nothing c.self.inside.entries.items c.self.invariant.0.sound)

@@ -1,5 +1,5 @@
 use Rattle.std.proofs.Common.{◌≡◌, ◌<◌, ◌∙◌, List, Some, None, length, set, sym, ap, subst}
-use Rattle.std.specs.Prelude.{slice_get, remove}
+use Rattle.std.specs.Prelude.{slice_get}
 use Rattle.range_assembler.specs.declared.sequence.Range.{Range}
 use Rattle.range_assembler.specs.Sides.{HaveSides}
 use Rattle.range_assembler.proofs.Ordering.{some_at}

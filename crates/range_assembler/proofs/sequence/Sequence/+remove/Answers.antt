@@ -1,5 +1,5 @@
-use Rattle.std.proofs.Common.{◌≡◌, ◌<◌, ◌≤◌, [], ◌∷◌, ◌++◌, ◌∙◌, None, Some, length, sym, ap, subst, arith, append-nil}
-use Rattle.std.specs.Prelude.{slice_get, remove}
+use Rattle.std.proofs.Common.{◌≡◌, ◌∷◌, ◌++◌, ◌∙◌, None, Some, length, sym, ap, subst, arith, append-nil}
+use Rattle.std.specs.Prelude.{slice_get}
 use Rattle.range_assembler.specs.Sequence.{ranges, IsCounted}
 use Rattle.range_assembler.proofs.Edits.{remove_left, remove_right, remove_middle, first_and_rest, none_first, length_remove}
 use Rattle.range_assembler.proofs.sequence.Sequence.+remove.Goals as goal
