@@ -3,14 +3,11 @@
 ratio of the two, which is to be at most 2.2. Other counts may be given, the second twice the first. It builds a program of its
 own over copies of ub_base and range_assembler, in a folder that it removes."""
 
-import os
-import shutil
-import subprocess
 import sys
 import tempfile
 
-ROOT = os.path.dirname(os.path.dirname(os.path.abspath(__file__)))
-TRIES = 5
+from built import build, rows_of
+
 WANTED = 2.2
 COUNTS = (131_072, 262_144)
 CRATES = "ub_base: thiserror\nrange_assembler: ub_base\nassembler_bench: ub_base range_assembler\n"
@@ -94,40 +91,22 @@ fn main(rt: HostRuntime) -> io::Result<()> {
 """
 
 
-def build(folder, counts):
-    """The program, built in the folder."""
-    for crate in ("ub_base", "range_assembler"):
-        for part in ("src", "specs", "proofs"):
-            shutil.copytree(os.path.join(ROOT, "crates", crate, part), os.path.join(folder, "crates", crate, part))
-    home = os.path.join(folder, "crates", "assembler_bench")
-    os.makedirs(os.path.join(home, "src"))
-    with open(os.path.join(folder, "crates.txt"), "w") as file:
-        file.write(CRATES)
-    with open(os.path.join(home, "src", "main.rt"), "w") as file:
-        file.write(MAIN.replace("FEWER", str(counts[0])).replace("MORE", str(counts[1])))
-    built = subprocess.run(["rt", "run"], cwd=home, capture_output=True, text=True)
-    if built.returncode != 0:
-        sys.exit(built.stdout + built.stderr)
-    return os.path.join(home, "out", "assembler_bench")
-
-
 def measure(program):
     """The least times of some runs, in nanoseconds, by the number of parts."""
     least = {}
-    for _ in range(TRIES):
-        run = subprocess.run([program], capture_output=True, text=True, check=True)
-        for row in run.stdout.splitlines():
-            good, count, time = row.split()
-            if good != "true":
-                sys.exit("a call was refused")
-            least[int(count)] = min(int(time), least.get(int(count), int(time)))
+    for row in rows_of(program):
+        good, count, time = row.split()
+        if good != "true":
+            sys.exit("a call was refused")
+        least[int(count)] = min(int(time), least.get(int(count), int(time)))
     return least
 
 
 def main():
     counts = tuple(map(int, sys.argv[1:3])) if len(sys.argv) == 3 else COUNTS
     with tempfile.TemporaryDirectory() as folder:
-        times = measure(build(folder, counts))
+        main_text = MAIN.replace("FEWER", str(counts[0])).replace("MORE", str(counts[1]))
+        times = measure(build(folder, "assembler_bench", CRATES, main_text))
     for count in counts:
         print(f"{count} parts: {times[count] / 1e9:.3f} s, {times[count] / count:.0f} ns a part")
     ratio = times[counts[1]] / times[counts[0]]

@@ -3,14 +3,11 @@
 the same run. It builds a program of its own over copies of ub_base and dot_blocks, in a folder that it removes. The program
 keeps the memory that it has given back, since fresh memory of the system's would cost more than the work."""
 
-import os
-import shutil
-import subprocess
 import sys
 import tempfile
 
-ROOT = os.path.dirname(os.path.dirname(os.path.abspath(__file__)))
-TRIES = 5
+from built import build, rows_of
+
 KEEPS = "glibc.malloc.mmap_threshold=1000000000:glibc.malloc.trim_threshold=2000000000"
 CRATES = "ub_base: thiserror\ndot_blocks: ub_base memchr\nblock_bench: ub_base dot_blocks\n"
 MAIN = """//! Times `split_block` and `stuff` beside copies of the same bytes.
@@ -101,40 +98,21 @@ fn main(rt: HostRuntime) -> io::Result<()> {
 """
 
 
-def build(folder):
-    """The program, built in the folder."""
-    for crate in ("ub_base", "dot_blocks"):
-        for part in ("src", "specs", "proofs"):
-            shutil.copytree(os.path.join(ROOT, "crates", crate, part), os.path.join(folder, "crates", crate, part))
-    home = os.path.join(folder, "crates", "block_bench")
-    os.makedirs(os.path.join(home, "src"))
-    with open(os.path.join(folder, "crates.txt"), "w") as file:
-        file.write(CRATES)
-    with open(os.path.join(home, "src", "main.rt"), "w") as file:
-        file.write(MAIN)
-    built = subprocess.run(["rt", "run"], cwd=home, capture_output=True, text=True)
-    if built.returncode != 0:
-        sys.exit(built.stdout + built.stderr)
-    return os.path.join(home, "out", "block_bench")
-
-
 def measure(program):
     """The least times of some runs, by the block's length."""
     least = {}
-    for _ in range(TRIES):
-        run = subprocess.run([program], env={"GLIBC_TUNABLES": KEEPS}, capture_output=True, text=True, check=True)
-        for row in run.stdout.splitlines():
-            good, *numbers = row.split()
-            length, *times = map(int, numbers)
-            if good != "true":
-                sys.exit("a call failed")
-            least[length] = [min(pair) for pair in zip(times, least.get(length, times))]
+    for row in rows_of(program, env={"GLIBC_TUNABLES": KEEPS}):
+        good, *numbers = row.split()
+        length, *times = map(int, numbers)
+        if good != "true":
+            sys.exit("a call failed")
+        least[length] = [min(pair) for pair in zip(times, least.get(length, times))]
     return least
 
 
 def main():
     with tempfile.TemporaryDirectory() as folder:
-        for length, times in measure(build(folder)).items():
+        for length, times in measure(build(folder, "block_bench", CRATES, MAIN)).items():
             copied, split, kept_copied, stuffed = times
             print(f"a block of {length / 1e6:.1f} MB:")
             print(f"  split_block {length / split:.1f} GB/s, {copied / split:.2f} times the rate of a copy to fresh memory")

@@ -8,16 +8,14 @@ minutes.
 A further part is a function in MAIN, a call of `told`, and a row of WANTED."""
 
 import os
-import shutil
 import subprocess
 import sys
 import tempfile
 import zlib
 
+from built import build, rows_of
 from measure import PYTHON
 
-ROOT = os.path.dirname(os.path.dirname(os.path.abspath(__file__)))
-TRIES = 5
 CRATES = """ub_base: thiserror
 crc_field:
 landing_kernel:
@@ -279,23 +277,6 @@ LEN = 1048576
 CONTENT = 739067
 
 
-def build(folder):
-    """The program, built in the folder."""
-    for crate in [line.split(":")[0] for line in CRATES.splitlines()[:-1]]:
-        for part in ("src", "specs", "proofs"):
-            shutil.copytree(os.path.join(ROOT, "crates", crate, part), os.path.join(folder, "crates", crate, part))
-    home = os.path.join(folder, "crates", "decoder_bench")
-    os.makedirs(os.path.join(home, "src"))
-    with open(os.path.join(folder, "crates.txt"), "w") as file:
-        file.write(CRATES)
-    with open(os.path.join(home, "src", "main.rt"), "w") as file:
-        file.write(MAIN)
-    built = subprocess.run(["rt", "run"], cwd=home, capture_output=True, text=True)
-    if built.returncode != 0:
-        sys.exit(built.stdout + built.stderr)
-    return os.path.join(home, "out", "decoder_bench")
-
-
 def article(content):
     """The block of an article with this content in lines of 128, as a news server sends it."""
     lines, line = [], bytearray()
@@ -318,11 +299,9 @@ def article(content):
 def measure(program, folder):
     """The least time of each part over some runs, in nanoseconds."""
     least = {}
-    for _ in range(TRIES):
-        run = subprocess.run([program], cwd=folder, capture_output=True, text=True, check=True)
-        for row in run.stdout.splitlines():
-            time, _, name = row.split(maxsplit=2)
-            least[name] = min(int(time), least.get(name, int(time)))
+    for row in rows_of(program, cwd=folder):
+        time, _, name = row.split(maxsplit=2)
+        least[name] = min(int(time), least.get(name, int(time)))
     return least
 
 
@@ -356,7 +335,7 @@ def main():
     with tempfile.TemporaryDirectory() as folder:
         with open(os.path.join(folder, "block"), "wb") as file:
             file.write(article(os.urandom(CONTENT)))
-        times = measure(build(folder), folder)
+        times = measure(build(folder, "decoder_bench", CRATES, MAIN), folder)
         theirs = peer(folder)
     copied = times[COPY] / LEN
     print(f"{COPY}: {1000 / copied:.0f} MB/s")

@@ -6,12 +6,12 @@ ub_base and pipeline_core, and of the calls in pipeline_rows that keep the core'
 
 import os
 import shutil
-import subprocess
 import sys
 import tempfile
 
-ROOT = os.path.dirname(os.path.dirname(os.path.abspath(__file__)))
-TRIES = 3
+from built import build, rows_of
+from measure import ROOT
+
 GREATEST_RATIO = 2.2
 CRATES = "ub_base: thiserror\npipeline_core: ub_base circular_buffer\npipeline_bench: ub_base pipeline_core\n"
 MAIN = """//! Times whole runs of `next` and `reply`.
@@ -107,14 +107,9 @@ fn main(rt: HostRuntime) -> io::Result<()> {
 """
 
 
-def build(folder):
-    """The program, built in the folder."""
-    crates = os.path.join(folder, "crates")
-    for crate in ("ub_base", "pipeline_core"):
-        for part in ("src", "specs", "proofs"):
-            shutil.copytree(os.path.join(ROOT, "crates", crate, part), os.path.join(crates, crate, part))
-    rows = os.path.join(ROOT, "crates", "pipeline_rows")
-    home = os.path.join(crates, "pipeline_bench")
+def copy_trial(folder):
+    """Copies the trial that the tests make of a core, with what is proved of it, to the program's crate."""
+    rows, home = os.path.join(ROOT, "crates", "pipeline_rows"), os.path.join(folder, "crates", "pipeline_bench")
     shutil.copytree(os.path.join(rows, "proofs"), os.path.join(home, "proofs"))
     os.makedirs(os.path.join(home, "src"))
     shutil.copy(os.path.join(rows, "src", "trial.rt"), os.path.join(home, "src"))
@@ -124,33 +119,24 @@ def build(folder):
                 text = file.read()
             with open(os.path.join(place, name), "w", encoding="utf-8") as file:
                 file.write(text.replace("Rattle.pipeline_rows.", "Rattle.pipeline_bench."))
-    with open(os.path.join(folder, "crates.txt"), "w") as file:
-        file.write(CRATES)
-    with open(os.path.join(home, "src", "main.rt"), "w") as file:
-        file.write(MAIN)
-    built = subprocess.run(["rt", "run"], cwd=home, capture_output=True, text=True)
-    if built.returncode != 0:
-        sys.exit(built.stdout + built.stderr)
-    return os.path.join(home, "out", "pipeline_bench")
 
 
 def measure(program):
     """The least times of some runs, by what is run and the number of segments."""
     least = {}
-    for _ in range(TRIES):
-        run = subprocess.run([program], capture_output=True, text=True, check=True)
-        for row in run.stdout.splitlines():
-            name, segments, good, _, time = row.split()
-            if good != "true":
-                sys.exit(f"{name} didn't finish")
-            key = (name, int(segments))
-            least[key] = min(int(time), least.get(key, int(time)))
+    for row in rows_of(program):
+        name, segments, good, _, time = row.split()
+        if good != "true":
+            sys.exit(f"{name} didn't finish")
+        key = (name, int(segments))
+        least[key] = min(int(time), least.get(key, int(time)))
     return least
 
 
 def main():
     with tempfile.TemporaryDirectory() as folder:
-        least = measure(build(folder))
+        copy_trial(folder)
+        least = measure(build(folder, "pipeline_bench", CRATES, MAIN))
     for name in ("all", "fallback", "halves"):
         half, whole = least[name, 131072], least[name, 262144]
         print(f"{name}: {whole / 1e9:.3f} s, {whole / half:.2f} times as long as half of it")

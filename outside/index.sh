@@ -24,18 +24,6 @@ index() {
     grep -qxF "$line" err || complain "there is no line '$line': $nzb: $(head -n 3 err)"
 }
 
-# fetched NZB FILE PORT [USER PASSWORD]: another downloader gets the same file by the NZB
-fetched() {
-    rm -rf got && mkdir got
-    nzbget -n -o MainDir="$PWD/got" -o DestDir="$PWD/got/dst" -o InterDir="$PWD/got/inter" -o QueueDir="$PWD/got/queue" \
-        -o TempDir="$PWD/got/tmp" -o NzbDir="$PWD/got/nzb" -o ScriptDir="$PWD/got/scripts" -o LockFile="$PWD/got/lock" \
-        -o LogFile="$PWD/got/log" -o WriteLog=none -o Server1.Active=yes -o Server1.Host=127.0.0.1 -o Server1.Port="$3" -o Server1.Connections=2 \
-        -o Server1.Username="${4:-}" -o Server1.Password="${5:-}" -o OutputMode=log -o ParCheck=manual -o Unpack=no \
-        "$1" >nzbget.log 2>&1
-    found=$(find got -type f -name "$2" | head -n 1)
-    [ -n "$found" ] && cmp -s "$found" "$2" || complain "$2 doesn't come back whole by $1"
-}
-
 start_news_server || exit $status
 
 head -c 1000001 /dev/urandom >random.bin

@@ -20,18 +20,6 @@ post() {
     fi
 }
 
-# fetched TOKEN FILE PORT [USER PASSWORD]: another downloader gets the same file by the NZB
-fetched() {
-    rm -rf got && mkdir got
-    nzbget -n -o MainDir="$PWD/got" -o DestDir="$PWD/got/dst" -o InterDir="$PWD/got/inter" -o QueueDir="$PWD/got/queue" \
-        -o TempDir="$PWD/got/tmp" -o NzbDir="$PWD/got/nzb" -o ScriptDir="$PWD/got/scripts" -o LockFile="$PWD/got/lock" \
-        -o LogFile="$PWD/got/log" -o WriteLog=none -o Server1.Active=yes -o Server1.Host=127.0.0.1 -o Server1.Port="$3" -o Server1.Connections=2 \
-        -o Server1.Username="${4:-}" -o Server1.Password="${5:-}" -o OutputMode=log -o ParCheck=manual -o Unpack=no \
-        "$1.nzb" >nzbget.log 2>&1
-    found=$(find got -type f -name "$2" | head -n 1)
-    [ -n "$found" ] && cmp -s "$found" "$2" || complain "$2 doesn't come back whole from port $3"
-}
-
 start_news_server || exit $status
 
 head -c 3000001 /dev/urandom >random.bin
@@ -55,9 +43,9 @@ post 0 '' "$closed" random.bin five --login right
 post 5 'usebin: no link' 1 random.bin six
 
 if command -v nzbget >/dev/null 2>&1; then
-    fetched one random.bin "$open"
-    fetched two dots.bin "$open"
-    fetched five random.bin "$closed" usebin secret
+    fetched one.nzb random.bin "$open"
+    fetched two.nzb dots.bin "$open"
+    fetched five.nzb random.bin "$closed" usebin secret
     [ "$status" -eq 0 ] && echo "$check: nzbget fetches what was posted"
 else
     echo "$check: nzbget isn't installed, fetching is skipped"
