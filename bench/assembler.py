@@ -1,7 +1,7 @@
 #!/usr/bin/env python3
 """Claims and accepts the parts of one file in a random order, 131,072 parts and 262,144, and prints the time for each and the
 ratio of the two, which is to be at most 2.2. Other counts may be given, the second twice the first. It builds a program of its
-own over copies of ub_base and range_assembler, in a folder that it removes."""
+own over copies of range_assembler and the crates below it, in a folder that it removes."""
 
 import sys
 import tempfile
@@ -10,7 +10,7 @@ from built import build, rows_of
 
 WANTED = 2.2
 COUNTS = (131_072, 262_144)
-CRATES = "ub_base: thiserror\nrange_assembler: ub_base\nassembler_bench: ub_base range_assembler\n"
+USES = ["range_assembler"]
 MAIN = """//! Times the claims and accepts of a file's parts in a random order.
 #![tactic(auto)]
 
@@ -106,7 +106,7 @@ def main():
     counts = tuple(map(int, sys.argv[1:3])) if len(sys.argv) == 3 else COUNTS
     with tempfile.TemporaryDirectory() as folder:
         main_text = MAIN.replace("FEWER", str(counts[0])).replace("MORE", str(counts[1]))
-        times = measure(build(folder, "assembler_bench", CRATES, main_text))
+        times = measure(build(folder, "assembler_bench", USES, main_text))
     for count in counts:
         print(f"{count} parts: {times[count] / 1e9:.3f} s, {times[count] / count:.0f} ns a part")
     ratio = times[counts[1]] / times[counts[0]]

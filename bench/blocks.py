@@ -1,6 +1,6 @@
 #!/usr/bin/env python3
 """Splits a block of lines of 128 bytes and stuffs them again, and prints how fast that is beside copies of the same bytes in
-the same run. It builds a program of its own over copies of ub_base and dot_blocks, in a folder that it removes. The program
+the same run. It builds a program of its own over copies of dot_blocks and the crates below it, in a folder that it removes. The program
 keeps the memory that it has given back, since fresh memory of the system's would cost more than the work."""
 
 import sys
@@ -9,14 +9,14 @@ import tempfile
 from built import build, rows_of
 
 KEEPS = "glibc.malloc.mmap_threshold=1000000000:glibc.malloc.trim_threshold=2000000000"
-CRATES = "ub_base: thiserror\ndot_blocks: ub_base memchr\nblock_bench: ub_base dot_blocks\n"
+USES = ["lists", "dot_blocks"]
 MAIN = """//! Times `split_block` and `stuff` beside copies of the same bytes.
 #![tactic(auto)]
 
 use dot_blocks::{split_block, stuff};
+use lists::Bytes;
 use std::io;
 use std::time::Instant;
-use ub_base::Bytes;
 
 fn push_line(seed: usize, out: &mut Bytes) -> bool {
     let mut line = [0u8; 130];
@@ -112,7 +112,7 @@ def measure(program):
 
 def main():
     with tempfile.TemporaryDirectory() as folder:
-        for length, times in measure(build(folder, "block_bench", CRATES, MAIN)).items():
+        for length, times in measure(build(folder, "block_bench", USES, MAIN)).items():
             copied, split, kept_copied, stuffed = times
             print(f"a block of {length / 1e6:.1f} MB:")
             print(f"  split_block {length / split:.1f} GB/s, {copied / split:.2f} times the rate of a copy to fresh memory")

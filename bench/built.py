@@ -8,17 +8,36 @@ import sys
 from measure import ROOT, TRIES
 
 
-def build(folder, name, crates, main):
-    """Builds the program of this name, whose text is `main`, in a folder. `crates` has the lines of crates.txt, the program's own last;
-    the others are copied from the repository."""
-    for line in crates.splitlines()[:-1]:
-        crate = line.split(":")[0]
+def crates_below(uses):
+    """The lines of crates.txt, by their names, of some crates and of those that they stand on."""
+    uses_of = {}
+    with open(os.path.join(ROOT, "crates.txt"), encoding="utf-8") as file:
+        for line in file:
+            name, colon, below = line.split("#")[0].partition(":")
+            if colon:
+                uses_of[name.split()[0]] = below.split()
+    found, waiting = {}, list(uses)
+    while waiting:
+        name = waiting.pop()
+        if name in uses_of and name not in found:
+            found[name] = f"{name}: {' '.join(uses_of[name])}\n"
+            waiting += uses_of[name]
+    return found
+
+
+def build(folder, name, uses, main):
+    """Builds the program of this name, whose text is `main` and which uses these crates, in a folder. They and those below them are
+    copied from the repository."""
+    crates = crates_below(uses)
+    for crate in crates:
         for part in ("src", "specs", "proofs"):
-            shutil.copytree(os.path.join(ROOT, "crates", crate, part), os.path.join(folder, "crates", crate, part))
+            place = os.path.join(ROOT, "crates", crate, part)
+            if os.path.isdir(place):
+                shutil.copytree(place, os.path.join(folder, "crates", crate, part))
     home = os.path.join(folder, "crates", name)
     os.makedirs(os.path.join(home, "src"), exist_ok=True)
     with open(os.path.join(folder, "crates.txt"), "w", encoding="utf-8") as file:
-        file.write(crates)
+        file.write("".join(crates.values()) + f"{name}: {' '.join(uses)}\n")
     with open(os.path.join(home, "src", "main.rt"), "w", encoding="utf-8") as file:
         file.write(main)
     built = subprocess.run(["rt", "run"], cwd=home, capture_output=True, text=True)

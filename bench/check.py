@@ -1,6 +1,7 @@
 #!/usr/bin/env python3
 """Checks an NZB of about 60 MB with 262,144 segments with the built program. Prints the processor time and the peak memory as
-a multiple of the text, beside those of expat (by way of Python, which hears no element) and of xmllint."""
+a multiple of the text, beside those of expat (by way of Python, which hears no element) and of xmllint. Then checks NZBs of one
+tag with 160,000 and 320,000 attributes."""
 
 import os
 import shutil
@@ -43,6 +44,21 @@ def write(path):
         file.write("</nzb>\n")
 
 
+def write_wide(path, attributes):
+    with open(path, "w") as file:
+        file.write("<nzb")
+        for i in range(attributes):
+            file.write(f' a{i:07}=""')
+        file.write("/>")
+
+
+def check_wide(path):
+    for attributes in (160000, 320000):
+        write_wide(path, attributes)
+        seconds, peak = measure([PROGRAM, "check", "--nzb", path])
+        print(f"one tag of {attributes} attributes: {seconds:.2f} s, peak memory {peak / 1e6:.0f} MB")
+
+
 def main():
     with tempfile.TemporaryDirectory() as folder:
         path, out = os.path.join(folder, "a.nzb"), os.path.join(folder, "out")
@@ -52,6 +68,7 @@ def main():
         with open(out) as file:
             print(" ".join(file.read().split()))
         print(f"usebin: {seconds:.2f} s for {size / 1e6:.0f} MB, {size / seconds / 1e6:.0f} MB/s, peak memory {peak / size:.1f} times the text")
+        check_wide(os.path.join(folder, "wide.nzb"))
         theirs, peak = measure([PYTHON, "-c", PEER, path])
         print(f"expat: {theirs:.2f} s, peak memory {peak / 1e6:.0f} MB; usebin takes {seconds / theirs:.2f} times its time")
         if shutil.which("xmllint") is None:

@@ -16,16 +16,7 @@ import zlib
 from built import build, rows_of
 from measure import PYTHON
 
-CRATES = """ub_base: thiserror
-crc_field:
-landing_kernel:
-yenc_bytes: ub_base
-yenc_lines: ub_base crc_field
-yenc_body: ub_base crc_field yenc_bytes yenc_lines memchr
-dot_blocks: ub_base memchr
-fused_decoder: ub_base crc_field yenc_bytes yenc_lines yenc_body dot_blocks landing_kernel memchr
-decoder_bench: crc_field landing_kernel fused_decoder
-"""
+USES = ["crc_field", "landing_kernel", "fused_decoder"]
 COPY = "copy"
 # what is wanted of a part: so many times the rate of a copy, and so many MB/s
 WANTED = {
@@ -335,7 +326,7 @@ def main():
     with tempfile.TemporaryDirectory() as folder:
         with open(os.path.join(folder, "block"), "wb") as file:
             file.write(article(os.urandom(CONTENT)))
-        times = measure(build(folder, "decoder_bench", CRATES, MAIN), folder)
+        times = measure(build(folder, "decoder_bench", USES, MAIN), folder)
         theirs = peer(folder)
     copied = times[COPY] / LEN
     print(f"{COPY}: {1000 / copied:.0f} MB/s")

@@ -2,7 +2,7 @@
 """Whole runs of a pipeline core over 262,144 segments and over half as many, on 64 links with 32 segments outstanding on each: all
 arrive; the first of two servers has none, and the second is its fallback; each of two servers has every second one. Prints the
 time of each, and how many times as long twice as many segments take, which is to be at most 2.2. It builds a program of its own over copies of
-ub_base and pipeline_core, and of the calls in pipeline_rows that keep the core's conditions, in a folder that it removes."""
+ub_base and pipeline_core, and of the calls in machine_rows that keep the core's conditions, in a folder that it removes."""
 
 import os
 import shutil
@@ -13,7 +13,7 @@ from built import build, rows_of
 from measure import ROOT
 
 GREATEST_RATIO = 2.2
-CRATES = "ub_base: thiserror\npipeline_core: ub_base circular_buffer\npipeline_bench: ub_base pipeline_core\n"
+USES = ["pipeline_core"]
 MAIN = """//! Times whole runs of `next` and `reply`.
 #![tactic(auto)]
 
@@ -109,7 +109,7 @@ fn main(rt: HostRuntime) -> io::Result<()> {
 
 def copy_trial(folder):
     """Copies the trial that the tests make of a core, with what is proved of it, to the program's crate."""
-    rows, home = os.path.join(ROOT, "crates", "pipeline_rows"), os.path.join(folder, "crates", "pipeline_bench")
+    rows, home = os.path.join(ROOT, "crates", "machine_rows"), os.path.join(folder, "crates", "pipeline_bench")
     shutil.copytree(os.path.join(rows, "proofs"), os.path.join(home, "proofs"))
     os.makedirs(os.path.join(home, "src"))
     shutil.copy(os.path.join(rows, "src", "trial.rt"), os.path.join(home, "src"))
@@ -118,7 +118,7 @@ def copy_trial(folder):
             with open(os.path.join(place, name), encoding="utf-8") as file:
                 text = file.read()
             with open(os.path.join(place, name), "w", encoding="utf-8") as file:
-                file.write(text.replace("Rattle.pipeline_rows.", "Rattle.pipeline_bench."))
+                file.write(text.replace("Rattle.machine_rows.", "Rattle.pipeline_bench."))
 
 
 def measure(program):
@@ -136,7 +136,7 @@ def measure(program):
 def main():
     with tempfile.TemporaryDirectory() as folder:
         copy_trial(folder)
-        least = measure(build(folder, "pipeline_bench", CRATES, MAIN))
+        least = measure(build(folder, "pipeline_bench", USES, MAIN))
     for name in ("all", "fallback", "halves"):
         half, whole = least[name, 131072], least[name, 262144]
         print(f"{name}: {whole / 1e9:.3f} s, {whole / half:.2f} times as long as half of it")

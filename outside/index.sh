@@ -3,7 +3,7 @@
 # fetches the files by the NZB that it wrote.
 check=outside/index
 . outside/begin
-. "$OLDPWD/outside/news_server"
+. "$OLDPWD/outside/inn"
 
 command -v uuenview >/dev/null 2>&1 || { echo "$check: uuenview isn't installed, indexing its posts is skipped"; exit 0; }
 

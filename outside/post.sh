@@ -3,7 +3,7 @@
 # them back by the NZB that it wrote.
 check=outside/post
 . outside/begin
-. "$OLDPWD/outside/news_server"
+. "$OLDPWD/outside/inn"
 
 # post STATUS LINE PORT FILE TOKEN [WORD..]: the status, and a line on standard error, or that there is none
 post() {

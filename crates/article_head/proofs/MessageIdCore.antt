@@ -10,6 +10,7 @@ use Rattle.nntp_lines.specs.Word.{IsWord}
 use Rattle.article_head.specs.PartId.{IsAtom, IsDomain, IsDotAtom, IsMessageIdCore, IsToken, is_atom_byte, is_label_byte, is_token_byte, part_id_text}
 use Rattle.article_head.proofs.PartIdLaws.{part_id_is_message_id}
 use Rattle.article_head.proofs.TextLaws.{AllPassed, append_passed, decimal_passed, wider_passed}
+use Rattle.limits.specs.declared.TheConstants.{MOST_SEGMENTS}
 
 alphanumeric_atom : (byte : ℕ) → is_ascii_alphanumeric byte ≡ true → is_atom_byte byte ≡ true
 alphanumeric_atom byte h = or_left (is_ascii_alphanumeric byte) _ h
@@ -31,16 +32,16 @@ token_atom byte h = by_kind (or_cases (is_label_byte byte) (byte == 95) h)
 digit_alphanumeric : (byte : ℕ) → digit_value byte < 10 → is_ascii_alphanumeric byte ≡ true
 digit_alphanumeric byte h = grind (arith, nat_tests)
 
-number_passed : (n : ℕ) → n ≤ 262144 → AllPassed is_atom_byte (decimal n)
+number_passed : (n : ℕ) → n ≤ MOST_SEGMENTS → AllPassed is_atom_byte (decimal n)
 number_passed n most = decimal_passed is_atom_byte (λ byte h. alphanumeric_atom byte (digit_alphanumeric byte h)) n (omega arith)
 
-number_is_atom : (part total : ℕ) → part ≤ 262144 → total ≤ 262144 → IsAtom (decimal part ++ codes "of" ++ decimal total)
+number_is_atom : (part total : ℕ) → part ≤ MOST_SEGMENTS → total ≤ MOST_SEGMENTS → IsAtom (decimal part ++ codes "of" ++ decimal total)
 number_is_atom part total p t = (
   let some = decimal_nonempty part (omega arith) in simp length-append (omega arith),
   append_passed is_atom_byte (decimal part ++ codes "of") (decimal total) (append_passed is_atom_byte (decimal part) (codes "of") (number_passed part p) refl) (number_passed total t),
 )
 
-left_is_dot_atom : (token : List ℕ) (part total : ℕ) → IsToken token → part ≤ 262144 → total ≤ 262144 → IsDotAtom (token ++ codes "." ++ decimal part ++ codes "of" ++ decimal total)
+left_is_dot_atom : (token : List ℕ) (part total : ℕ) → IsToken token → part ≤ MOST_SEGMENTS → total ≤ MOST_SEGMENTS → IsDotAtom (token ++ codes "." ++ decimal part ++ codes "of" ++ decimal total)
 left_is_dot_atom token part total t p n = record {
   atoms = token ∷ (decimal part ++ codes "of" ++ decimal total) ∷ [];
   some = omega arith;
@@ -58,7 +59,7 @@ domain_is_dot_atom domain d = record {
   joined = d.joined;
 }
 
-pub part_id_is_core : (token domain : List ℕ) (part total : ℕ) → IsToken token → IsDomain domain → part ≤ 262144 → total ≤ 262144 → IsMessageIdCore (part_id_text token domain part total)
+pub part_id_is_core : (token domain : List ℕ) (part total : ℕ) → IsToken token → IsDomain domain → part ≤ MOST_SEGMENTS → total ≤ MOST_SEGMENTS → IsMessageIdCore (part_id_text token domain part total)
 unfolding part_id_text
 part_id_is_core token domain part total t d p n = record {
   left = token ++ codes "." ++ decimal part ++ codes "of" ++ decimal total;

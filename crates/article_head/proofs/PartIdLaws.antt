@@ -10,6 +10,7 @@ use Rattle.nntp_lines.specs.MessageId.{IsMessageId, is_id_byte}
 use Rattle.nntp_lines.specs.Word.{IsWord}
 use Rattle.article_head.specs.PartId.{IsDomain, IsToken, is_label_byte, is_token_byte, part_id_text}
 use Rattle.article_head.proofs.TextLaws.{AllPassed, append_passed, decimal_passed, joined_passed, wider_passed}
+use Rattle.limits.specs.declared.TheConstants.{MOST_SEGMENTS}
 
 token_byte : (byte : ℕ) → is_token_byte byte ≡ true → is_id_byte byte ≡ true
 token_byte byte h = grind (arith, nat_tests)
@@ -27,10 +28,10 @@ domain_passed domain h =
     rw h.joined (joined_passed is_id_byte 46 refl h.labels
     (All-weaker (IsWord is_label_byte 64) (AllPassed is_id_byte) (λ label w. wider_passed is_label_byte is_id_byte label_byte label w.all) h.labels h.valid))
 
-number_length : (n : ℕ) → n ≤ 262144 → length (decimal n) ≤ 6
+number_length : (n : ℕ) → n ≤ MOST_SEGMENTS → length (decimal n) ≤ 6
 number_length n most = length-decimal-le 6 n (lit< tt) (omega arith) (omega arith)
 
-pub part_id_is_message_id : (token domain : List ℕ) (part total : ℕ) → IsToken token → IsDomain domain → part ≤ 262144 → total ≤ 262144 → IsMessageId (part_id_text token domain part total)
+pub part_id_is_message_id : (token domain : List ℕ) (part total : ℕ) → IsToken token → IsDomain domain → part ≤ MOST_SEGMENTS → total ≤ MOST_SEGMENTS → IsMessageId (part_id_text token domain part total)
 unfolding part_id_text
 part_id_is_message_id token domain part total t d p n = record {
   some = let some = t.some in simp length-append (omega arith);
@@ -41,7 +42,7 @@ part_id_is_message_id token domain part total t d p n = record {
       let total_length = number_length total n in
       simp length-append (omega arith);
   all =
-      let number = λ (k : ℕ) (most : k ≤ 262144). decimal_passed is_id_byte digit_byte k (omega arith) in
+      let number = λ (k : ℕ) (most : k ≤ MOST_SEGMENTS). decimal_passed is_id_byte digit_byte k (omega arith) in
       append_passed is_id_byte (token ++ codes "." ++ decimal part ++ codes "of" ++ decimal total ++ codes "@") domain
       (append_passed is_id_byte (token ++ codes "." ++ decimal part ++ codes "of" ++ decimal total) (codes "@")
       (append_passed is_id_byte (token ++ codes "." ++ decimal part ++ codes "of") (decimal total)
@@ -53,7 +54,7 @@ part_id_is_message_id token domain part total t d p n = record {
 
 -- ---- different parts
 
-pub ids_differ : (token domain : List ℕ) (part other total : ℕ) → part ≤ 262144 → other ≤ 262144 → part ≢ other → part_id_text token domain part total ≢ part_id_text token domain other total
+pub ids_differ : (token domain : List ℕ) (part other total : ℕ) → part ≤ MOST_SEGMENTS → other ≤ MOST_SEGMENTS → part ≢ other → part_id_text token domain part total ≢ part_id_text token domain other total
 unfolding part_id_text
 ids_differ token domain part other total p o differ same =
     let a = append_cancel_right (token ++ codes "." ++ decimal part ++ codes "of" ++ decimal total ++ codes "@") (token ++ codes "." ++ decimal other ++ codes "of" ++ decimal total ++ codes "@") domain same in

@@ -4,6 +4,7 @@ use Rattle.std.specs.Prelude.{◌≡◌, ◌≢◌, ℕ, ◌≤◌, Bool, ◌||�
 use Rattle.std.specs.Char.{is_ascii_alphanumeric}
 use Rattle.std.specs.List.{join_with_byte, list_all, list_any, slice_split}
 use Rattle.nntp_lines.specs.Word.{IsWord}
+use Rattle.limits.specs.declared.TheConstants.{MOST_SEGMENTS}
 
 -- a letter, a digit, `-` or `_`
 abbrev pub is_token_byte : ℕ → Bool
@@ -35,7 +36,7 @@ part_id_text token domain part total = token ++ codes "." ++ decimal part ++ cod
 
 -- two parts of a file have two message-ids
 abbrev pub PartIdsDiffer : Type 0
-PartIdsDiffer = (token domain : List ℕ) (part other total : ℕ) → part ≤ 262144 → other ≤ 262144 → part ≢ other →
+PartIdsDiffer = (token domain : List ℕ) (part other total : ℕ) → part ≤ MOST_SEGMENTS → other ≤ MOST_SEGMENTS → part ≢ other →
     part_id_text token domain part total ≢ part_id_text token domain other total
 
 -- ---- message-ids of the standard
@@ -66,5 +67,5 @@ pub record IsMessageIdCore (text : List ℕ) : Type 0 where
 
 -- what is made of a token and a domain is a message-id of the standard
 abbrev pub PartIdsAreValid : Type 0
-PartIdsAreValid = (token domain : List ℕ) (part total : ℕ) → IsToken token → IsDomain domain → part ≤ 262144 → total ≤ 262144 →
+PartIdsAreValid = (token domain : List ℕ) (part total : ℕ) → IsToken token → IsDomain domain → part ≤ MOST_SEGMENTS → total ≤ MOST_SEGMENTS →
     IsMessageIdCore (part_id_text token domain part total)

@@ -7,6 +7,9 @@ ghost use Rattle.article_head.specs.Field.{IsComment, IsFileName, IsFrom, IsNews
 
 use nntp_lines::GroupName;
 
+/// The room for a line of a head. A field line has at most 998 bytes (RFC 5536, 2.2).
+pub(crate) const ROOM: usize = 998;
+
 /// Whether a text may say who posts: 1 to 200 printable ASCII characters and spaces, with no space at either end.
 pub fn is_from(text: &[u8]) -> bool
     ensures { IsTrue result ↔ IsFrom text.now }

@@ -3,10 +3,11 @@ ghost use Rattle.std.specs.Prelude.{◌≡◌, ◌≤◌, ◌+◌, ◌∷◌, �
 ghost use Rattle.article_head.specs.Field.{IsComment, IsFileName};
 ghost use Rattle.article_head.specs.Head.{HasValidFields, lines_of_head, message_id_line, subject_line};
 
-use crate::put::{ROOM, put};
+use crate::field::ROOM;
 use crate::subject::put_subject;
+use lists::{Lines, Memory};
 use nntp_lines::MessageId;
-use ub_base::{Lines, Memory};
+use numbers::put;
 
 /// What the head of a part's article says.
 #[derive(Clone, Copy, Debug)]

@@ -3,9 +3,11 @@ ghost use Rattle.std.specs.Prelude.{◌≡◌, ◌≤◌, ◌↔◌, length, tak
 ghost use Rattle.std.specs.List.{list_all};
 ghost use Rattle.article_head.specs.Field.{is_word};
 ghost use Rattle.article_head.specs.PartId.{IsDomain, IsToken, is_label_byte, is_token_byte, labels_of, part_id_text};
+ghost use Rattle.limits.specs.declared.TheConstants.{MOST_SEGMENTS};
 
-use crate::put::{ROOM, put, put_number};
+use crate::field::ROOM;
 use nntp_lines::MessageId;
+use numbers::{put, put_number};
 
 /// Whether the message-ids of a file's parts may begin with a text: 1 to 64 letters, digits, `-` and `_`.
 pub fn is_token(text: &[u8]) -> bool
@@ -58,8 +60,8 @@ fn are_label_bytes(label: &[u8]) -> bool
 pub fn part_id(token: &[u8], domain: &[u8], part: u32, total: u32) -> MessageId
     requires token { IsToken token.now }
     requires domain { IsDomain domain.now }
-    requires part { part ≤ 262144 }
-    requires total { total ≤ 262144 }
+    requires part { part ≤ MOST_SEGMENTS }
+    requires total { total ≤ MOST_SEGMENTS }
     ensures { result ≡ part_id_text token.now domain.now part total }
 {
     let mut text = [0; ROOM];
@@ -80,9 +82,9 @@ fn put_part_id(text: &mut [u8; ROOM], token: &[u8], domain: &[u8], part: u32, to
 {
     let at = put(text, 0, token);
     let at = put(text, at, b".");
-    let at = put_number(text, at, part);
+    let at = put_number(text, at, u64::from(part));
     let at = put(text, at, b"of");
-    let at = put_number(text, at, total);
+    let at = put_number(text, at, u64::from(total));
     let at = put(text, at, b"@");
     put(text, at, domain)
 }

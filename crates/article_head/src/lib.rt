@@ -6,7 +6,6 @@ mod field;
 mod head;
 mod id;
 mod laws;
-mod put;
 mod subject;
 
 pub use field::{is_comment, is_file_name, is_from, is_newsgroups};

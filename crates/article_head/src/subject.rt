@@ -3,8 +3,9 @@ ghost use Rattle.std.specs.Prelude.{◌≡◌, ◌≤◌, ◌+◌, ◌++◌, len
 ghost use Rattle.article_head.specs.Field.{IsComment, IsFileName};
 ghost use Rattle.article_head.specs.Subject.{comment_text, subject_text};
 
-use crate::put::{ROOM, put, put_number};
-use ub_base::{Bytes, Memory};
+use crate::field::ROOM;
+use lists::{Bytes, Memory};
+use numbers::{put, put_number};
 
 /// Appends the subject of a part's article, as `COMMENT "NAME" yEnc (PART/TOTAL)`, or without the comment and the space
 /// behind it where the comment is empty (yEnc draft 1.3, "Subject Line Conventions"). Where memory runs out, the bytes
@@ -48,9 +49,9 @@ pub(crate) fn put_subject(
     let at = put(line, at, b"\"");
     let at = put(line, at, name);
     let at = put(line, at, b"\" yEnc (");
-    let at = put_number(line, at, part);
+    let at = put_number(line, at, u64::from(part));
     let at = put(line, at, b"/");
-    let at = put_number(line, at, total);
+    let at = put_number(line, at, u64::from(total));
     put(line, at, b")")
 }
 

@@ -1,11 +1,17 @@
 // What the tests hand in.
+use lists::Bytes;
 use std::alloc::Global;
 use std::test::Fail;
-use ub_base::Bytes;
 
 /// A list of these bytes.
 pub(crate) fn bytes_of(alloc: Global, text: &[u8]) -> Result<Bytes, Fail> {
     let mut bytes = Bytes::new(alloc);
     bytes.extend(text)?;
+    Ok(bytes)
+}
+
+/// So many bytes, all of them the same.
+pub(crate) fn filled(alloc: Global, byte: u8, count: usize) -> Result<Vec<u8>, Fail> {
+    let bytes = vec![in alloc; byte; count]?;
     Ok(bytes)
 }

@@ -4,10 +4,12 @@
 #[cfg(test)]
 mod fixtures;
 #[cfg(test)]
-mod lists;
+mod growing;
 #[cfg(test)]
 mod scripts;
 #[cfg(test)]
 mod sockets;
 #[cfg(test)]
 mod system;
+#[cfg(test)]
+mod turns;

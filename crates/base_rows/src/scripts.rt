@@ -1,11 +1,13 @@
 // Links in memory that follow a script.
 ghost use Rattle.std.specs.Prelude.{◌≡◌, ◌<◌, length, slice_get, Some, true, IfOk, OnOk};
-ghost use Rattle.ub_base.specs.ScriptLinks.{links_live};
+ghost use Rattle.io_memory.specs.ScriptLinks.{links_live};
 
 use crate::fixtures::bytes_of;
+use io_memory::{ScriptLinks, Turn};
+use io_traits::{Got, LinkEvent, Links};
+use lists::List;
 use std::alloc::Global;
 use std::test::Fail;
-use ub_base::{Got, LinkEvent, Links, List, ScriptLinks, Turn};
 
 // Links of which the first follows this script and the second an empty one.
 fn links_of(alloc: Global, script: List<Turn>, failing: &[u64]) -> Result<ScriptLinks, Fail> {

@@ -2,10 +2,11 @@
 // on this machine.
 ghost use Rattle.std.specs.Prelude.{◌≡◌, ◌<◌, length, slice_get, Some, true, IfOk, OnOk};
 
+use io_system::TcpLinks;
+use io_traits::{Got, Links};
 use std::io::{Read, Write};
 use std::net::TcpListener;
 use std::test::Fail;
-use ub_base::{Got, Links, TcpLinks};
 
 // Opens a link, which is live.
 fn open<L: Links>(links: &mut L, address: &[u8]) -> Result<u32, Fail>
@@ -82,5 +83,23 @@ fn an_address_that_is_no_text_is_a_fault(rt: HostRuntime) -> Result<(), Fail> {
     let reason = format!(in rt.alloc(); "{reason}")?;
     assert_eq!(rt; reason.as_str(), "the address is not UTF-8 text");
     assert!(rt; links.open(b"no port").is_err());
+    Ok(())
+}
+
+#[test]
+fn a_reset_is_a_fault(rt: HostRuntime) -> Result<(), Fail> {
+    let listener = TcpListener::bind(&rt, "127.0.0.1:0")?;
+    let here = listener.local_addr()?;
+    let address = format!(in rt.alloc(); "{here}")?;
+    let mut links = TcpLinks::new(rt.alloc(), &rt);
+    let link = open(&mut links, address.as_bytes())?;
+    let (peer, _) = listener.accept()?;
+    let mut buf = [0; 8];
+    assert_eq!(rt; say(&mut links, link, b"GROUP a\r\n")?, 9);
+    assert!(rt; peer.peek(&mut buf)? > 0);
+    // A socket that is closed before all its bytes were read resets its connection.
+    drop(peer);
+    assert_eq!(rt; links.receive(link, &mut buf), Got::Failed);
+    assert!(rt; links.reason().is_some());
     Ok(())
 }

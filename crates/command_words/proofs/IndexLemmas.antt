@@ -6,8 +6,8 @@ use Rattle.std.specs.Str.{bytes_eq}
 use Rattle.std.proofs.lemmas.List.{drop_all}
 use Rattle.std.proofs.lemmas.Bool.{and_parts, cases_Bool, cond-false, cond-true, leb-true}
 use Rattle.nntp_lines.specs.GroupName.{is_group_byte}
-use Rattle.news_server.proofs.ServerLaws.{server_from_test}
-use Rattle.news_server.proofs.WordTests.{word_from_test}
+use Rattle.server_logins.proofs.ServerLaws.{server_from_test}
+use Rattle.server_logins.proofs.WordTests.{word_from_test}
 use Rattle.command_words.specs.Asked.{paired, takes_by}
 use Rattle.command_words.specs.Index.{IndexAsked, IsIndexAllowed, article_of, index_asked, index_keys, index_of, index_of_pairs, index_required, is_group, is_range, may_be_range, number_before}
 use Rattle.command_words.specs.Keys.{Key, has_all, pairs_of, patience_of, text_of, value_of}

@@ -9,7 +9,7 @@ use Rattle.article_head.specs.PartId.{IsDomain, IsToken, is_label_byte, is_token
 use Rattle.article_head.proofs.Pieces.{domain_from_labels, few_names, labels_from_domain, names_from_newsgroups, newsgroups_from_names}
 use Rattle.nntp_lines.specs.Command.{is_printable}
 use Rattle.nntp_lines.specs.GroupName.{is_group_byte}
-use Rattle.news_server.proofs.WordTests.{test_from_word, word_from_test}
+use Rattle.server_logins.proofs.WordTests.{test_from_word, word_from_test}
 use Rattle.command_words.specs.PostValues.{is_comment, is_domain, is_from, is_newsgroups, is_text, is_token}
 
 -- ---- texts

@@ -5,13 +5,14 @@ use Rattle.std.specs.Option.{option_and_then, unwrap_or}
 use Rattle.std.proofs.lemmas.Bool.{and_from, and_parts, cond-false, cond-true, leb-true}
 use Rattle.article_head.specs.Field.{IsComment, IsFileName}
 use Rattle.article_head.specs.PartId.{is_token_byte}
-use Rattle.news_server.proofs.ServerLaws.{server_from_test}
-use Rattle.news_server.proofs.WordTests.{word_from_test}
+use Rattle.server_logins.proofs.ServerLaws.{server_from_test}
+use Rattle.server_logins.proofs.WordTests.{word_from_test}
 use Rattle.command_words.specs.Asked.{paired}
 use Rattle.command_words.specs.Keys.{Key, file_name, has_all, is_header_name, is_taken, key_of, line_of, pairs_of, part_size_of, patience_of, stands_as_key, text_of, value_of}
 use Rattle.command_words.specs.Post.{IsPostAllowed, PostAsked, post_asked, post_keys, post_of, post_of_pairs, post_required}
 use Rattle.command_words.proofs.KeysLemmas.{stands_with_value, values_taken}
 use Rattle.command_words.proofs.PostLaws.{domain_from_test, newsgroups_from_test, text_from_test}
+use Rattle.limits.specs.declared.TheConstants.{MOST_PART_BYTES}
 
 -- ---- what the pairs ask for
 
@@ -122,7 +123,7 @@ pub record AreWithin (asked : PostAsked) : Type 0 where
   pub line_least : 64 ≤ asked.line
   pub line_most : asked.line ≤ 997
   pub part_size_least : 1 ≤ asked.part_size
-  pub part_size_most : asked.part_size ≤ 16777216
+  pub part_size_most : asked.part_size ≤ MOST_PART_BYTES
   pub patience_least : 1 ≤ asked.patience
   pub patience_most : asked.patience ≤ 100000
 

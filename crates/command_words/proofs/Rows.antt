@@ -9,6 +9,7 @@ use Rattle.command_words.specs.Keys.{has_leading_zero}
 use Rattle.command_words.specs.Post.{post_of}
 use Rattle.command_words.specs.PostValues.{is_comment, is_domain, is_from, is_newsgroups}
 use Rattle.command_words.specs.declared.keys.Form.TheVariants as form
+use Rattle.limits.specs.declared.TheConstants.{MOST_PART_BYTES}
 
 -- ---- words
 
@@ -18,7 +19,7 @@ no_word = refl
 pub unknown_command : words_of (codes "verify" ∷ []) ≡ Refused 1
 unknown_command = refl
 
-pub nothing_but_defaults : words_of (codes "encode" ∷ codes "--input" ∷ codes "a/d" ∷ []) ≡ Asks (Encode (record { path = codes "a/d"; name = codes "d"; line = 128; part_size = 16777216; part = 1 }))
+pub nothing_but_defaults : words_of (codes "encode" ∷ codes "--input" ∷ codes "a/d" ∷ []) ≡ Asks (Encode (record { path = codes "a/d"; name = codes "d"; line = 128; part_size = MOST_PART_BYTES; part = 1 }))
 nothing_but_defaults = refl
 
 pub all_keys : words_of (codes "encode" ∷ codes "--part" ∷ codes "2" ∷ codes "--name" ∷ codes "a b" ∷ codes "--part-size" ∷ codes "9" ∷ codes "--input" ∷ codes "d/" ∷ codes "--line" ∷ codes "64" ∷ [])

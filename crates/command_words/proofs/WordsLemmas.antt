@@ -16,6 +16,7 @@ use Rattle.command_words.specs.Post.{post_of}
 use Rattle.command_words.specs.declared.keys.Rule.{Rule}
 use Rattle.command_words.proofs.KeysLemmas.{stands_with_value, values_taken}
 use Rattle.yenc_lines.specs.Name.{IsName, has_no_line_end, is_line_end}
+use Rattle.limits.specs.declared.TheConstants.{MOST_PART_BYTES}
 
 -- ---- a command by its keys
 
@@ -60,7 +61,7 @@ encode_asks words keys named path asked keys_are named_is are there is =
     asking (encode_keys (stands_as_key (codes "--name") words)) encode_asked words (Encode asked) (encode_pairs words keys named (Ok (paired words)) keys_are named_is are) (path_asks (paired words) path asked there is)
 
 pub asked_is : (path name : List ℕ) (line part_size part : ℕ) (pairs : List (List ℕ × List ℕ)) → name ≡ unwrap_or (value_of (codes "--name") pairs) (file_name path) → line ≡ unwrap_or (option_and_then line_of (value_of (codes "--line") pairs)) 128
-    → part_size ≡ unwrap_or (option_and_then part_size_of (value_of (codes "--part-size") pairs)) 16777216 → part ≡ unwrap_or (option_and_then part_of (value_of (codes "--part") pairs)) 1
+    → part_size ≡ unwrap_or (option_and_then part_size_of (value_of (codes "--part-size") pairs)) MOST_PART_BYTES → part ≡ unwrap_or (option_and_then part_of (value_of (codes "--part") pairs)) 1
     → record { path = path; name = name; line = line; part_size = part_size; part = part } ≡ part_asked pairs path
 asked_is path name line part_size part pairs n l s p = rw (n, l, s, p) refl
 

@@ -1,6 +1,6 @@
 -- What a reading of the words answers.
 use Rattle.std.specs.Prelude.{◌≡◌, ◌+◌, ◌≤◌, ◌++◌, ◌∷◌, [], ℕ, Bool, if◌then◌else◌, List, drop, get_or, length, take, is_some, Result, Ok, Err}
-use Rattle.news_server.specs.Server.{is_server}
+use Rattle.server_logins.specs.Server.{is_server}
 use Rattle.command_words.specs.CommandLine.{BodyAsked, PartAsked, Words}
 use Rattle.command_words.specs.CommandLine.Words.{Asks, Refused}
 use Rattle.command_words.specs.CommandLine.Command.{Check, Decode, Encode, Index, Post}
@@ -16,6 +16,7 @@ use Rattle.command_words.specs.declared.words.Command.TheVariants as given
 use Rattle.command_words.specs.declared.words.CheckWords.{CheckWords}
 use Rattle.command_words.specs.declared.words.DecodeWords.{DecodeWords}
 use Rattle.command_words.specs.declared.words.EncodeWords.{EncodeWords}
+use Rattle.limits.specs.declared.TheConstants.{MOST_PART_BYTES}
 
 -- ---- keys in a table
 
@@ -80,7 +81,7 @@ pub record IsEncodeAllowed (asked : EncodeWords) : Type 0 where
   pub line_least : 64 ≤ asked.line
   pub line_most : asked.line ≤ 997
   pub part_size_least : 1 ≤ asked.part_size
-  pub part_size_most : asked.part_size ≤ 16777216
+  pub part_size_most : asked.part_size ≤ MOST_PART_BYTES
   pub part_least : 1 ≤ asked.part
 
 abbrev pub IsAllowed : Command → Type 0

@@ -7,6 +7,7 @@ use Rattle.command_words.specs.declared.keys.Form.TheVariants.{File}
 use Rattle.command_words.specs.Index.{IndexAsked, index_of}
 use Rattle.command_words.specs.Keys.{Key, file_name, form_of, is_header_name, is_named_path, is_path, line_of, number_in, pairs_of, part_size_of, stands_as_key, value_of}
 use Rattle.command_words.specs.Post.{PostAsked, post_of}
+use Rattle.limits.specs.declared.TheConstants.{MOST_PART_BYTES}
 
 -- a part of a file that is to be encoded: the file's path, the name in the header, how many characters a data line has
 -- before it is full, how many bytes the parts have, and the part's number, from 1
@@ -73,7 +74,7 @@ part_asked pairs path = record {
   path = path;
   name = unwrap_or (value_of (codes "--name") pairs) (file_name path);
   line = unwrap_or (option_and_then line_of (value_of (codes "--line") pairs)) 128;
-  part_size = unwrap_or (option_and_then part_size_of (value_of (codes "--part-size") pairs)) 16777216;
+  part_size = unwrap_or (option_and_then part_size_of (value_of (codes "--part-size") pairs)) MOST_PART_BYTES;
   part = unwrap_or (option_and_then part_of (value_of (codes "--part") pairs)) 1;
 }
 

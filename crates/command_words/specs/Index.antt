@@ -3,7 +3,7 @@ use Rattle.std.specs.Prelude.{◌≡◌, ◌≤◌, ℕ, ◌+◌, ◌-◌, ◌&&
 use Rattle.std.specs.Option.{option_and_then, option_copied, unwrap_or}
 use Rattle.std.specs.Str.{bytes_eq}
 use Rattle.article_head.specs.Field.{is_word}
-use Rattle.news_server.specs.Server.{IsServer, is_server}
+use Rattle.server_logins.specs.Server.{IsServer, is_server}
 use Rattle.nntp_lines.specs.GroupName.{IsGroupName, is_group_byte}
 use Rattle.command_words.specs.Keys.{Key, has_all, is_path, number_in, pairs_of, patience_of, text_of, value_of}
 use Rattle.command_words.specs.declared.index.IndexWords.{IndexWords}

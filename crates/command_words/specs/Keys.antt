@@ -3,9 +3,10 @@ use Rattle.std.specs.Prelude.{ℕ, ◌+◌, ◌-◌, ◌==◌, ◌&&◌, ◌||�
 use Rattle.std.specs.Str.{bytes_eq}
 use Rattle.std.specs.List.{list_all}
 use Rattle.std.specs.Option.{unwrap_or}
-use Rattle.ub_base.specs.Numbers.{decimal_of, within}
+use Rattle.numbers.specs.Numbers.{decimal_of, within}
 use Rattle.command_words.specs.declared.keys.Form.{Form}
 use Rattle.command_words.specs.declared.keys.Form.TheVariants.{File, Wire}
+use Rattle.limits.specs.declared.TheConstants.{MOST_PART_BYTES}
 
 -- ---- what a value has to be
 
@@ -50,7 +51,7 @@ line_of = number_in 64 997
 
 -- how many bytes a part may have
 abbrev pub part_size_of : List ℕ → Option ℕ
-part_size_of = number_in 1 16777216
+part_size_of = number_in 1 MOST_PART_BYTES
 
 -- after how many receives that got nothing a server may be given up
 abbrev pub patience_of : List ℕ → Option ℕ

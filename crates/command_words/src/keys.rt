@@ -8,9 +8,9 @@ ghost use Rattle.command_words.specs.Asked.{key_model, paired, takes_by, ChecksP
 
 use crate::index::{is_first, is_last};
 use article_head::{is_comment, is_domain, is_from, is_newsgroups, is_token};
-use news_server::is_server;
 use nntp_lines::GroupName;
-use ub_base::read_dec;
+use numbers::read_dec;
+use server_logins::is_server;
 
 /// Which values a key takes.
 #[derive(Clone, Copy, Debug, PartialEq, Eq)]

@@ -6,9 +6,8 @@ ghost use Rattle.command_words.specs.Post.{IsPostAllowed, ReadsPost, post_found,
 use crate::keys::{
     Key, Rule, bytes_of, check_pairs, has_all, has_key, number_or, text_of, value_in,
 };
-use crate::words::{
-    LEAST_LINE, MOST_LINE, MOST_PART_SIZE, MOST_PATIENCE, PATIENCE, header_name, path_rule,
-};
+use crate::words::{LEAST_LINE, MOST_LINE, MOST_PATIENCE, PATIENCE, header_name, path_rule};
+use limits::MOST_PART_BYTES;
 use yenc_lines::Name;
 
 // How many bytes a part has where the words don't say it.
@@ -96,7 +95,7 @@ fn post_keys(is_named: bool) -> [Key; 12]
             word: "--part-size",
             rule: Rule::Number {
                 least: 1,
-                most: MOST_PART_SIZE,
+                most: MOST_PART_BYTES as u64,
             },
         },
         Key {
@@ -137,7 +136,7 @@ pub fn read_post(words: &[String]) -> Result<PostWords<'_>, u64>
         name: header_name(words, path),
         comment: bytes_of(words, "--comment"),
         line: number_or(words, "--line", LEAST_LINE, MOST_LINE, 128) as u16,
-        part_size: number_or(words, "--part-size", 1, MOST_PART_SIZE, PART_SIZE) as u32,
+        part_size: number_or(words, "--part-size", 1, MOST_PART_BYTES as u64, PART_SIZE) as u32,
         patience: number_or(words, "--patience", 1, MOST_PATIENCE, PATIENCE) as u32,
         login: value_in(words, "--login"),
     })

@@ -10,15 +10,13 @@ use crate::keys::{
     Form, Key, Rule, check_pairs, file_name, form_or_file, has_key, number_or, value_in,
 };
 use crate::post::{PostWords, read_post};
+use limits::MOST_PART_BYTES;
 use yenc_lines::Name;
 
 // How many characters a data line has before it is full.
 pub(crate) const LEAST_LINE: u64 = 64;
 
 pub(crate) const MOST_LINE: u64 = 997;
-
-// How many bytes a part has.
-pub(crate) const MOST_PART_SIZE: u64 = 16_777_216;
 
 // The greatest number of a part.
 const MOST_PART: u64 = 4_294_967_295;
@@ -153,7 +151,7 @@ fn encode_keys(is_named: bool) -> [Key; 5]
             word: "--part-size",
             rule: Rule::Number {
                 least: 1,
-                most: MOST_PART_SIZE,
+                most: MOST_PART_BYTES as u64,
             },
         },
         Key {
@@ -182,7 +180,13 @@ fn read_encode(words: &[String]) -> Result<EncodeWords<'_>, u64>
         path,
         name: header_name(words, path),
         line: number_or(words, "--line", LEAST_LINE, MOST_LINE, 128) as u16,
-        part_size: number_or(words, "--part-size", 1, MOST_PART_SIZE, MOST_PART_SIZE) as u32,
+        part_size: number_or(
+            words,
+            "--part-size",
+            1,
+            MOST_PART_BYTES as u64,
+            MOST_PART_BYTES as u64,
+        ) as u32,
         part: number_or(words, "--part", 1, MOST_PART, 1) as u32,
     })
 }

@@ -3,8 +3,8 @@ ghost use Rattle.std.specs.Prelude.{◌≡◌, ◌≢◌, [], ◌∷◌, ◌++�
 ghost use Rattle.dot_blocks.specs.Blocks.{HoldsNoLineEnd, IsBlock, IsRefusedFor, IsWireForm, Splits};
 
 use crate::line_end::line_len;
+use lists::{Lines, Memory};
 use std::alloc::Global;
-use ub_base::{Lines, Memory};
 
 /// Why bytes aren't split into the lines of a block.
 #[derive(Clone, Copy, Debug, PartialEq, Eq)]

@@ -2,7 +2,7 @@
 ghost use Rattle.std.specs.Prelude.{◌≡◌, ◌++◌, ◌∷◌, [], ℕ, List, OnOk, OnErr, All};
 ghost use Rattle.dot_blocks.specs.Blocks.{HoldsNoLineEnd, IsBlock, stuffed, stuffed_line};
 
-use ub_base::{Bytes, Lines, Memory};
+use lists::{Bytes, Lines, Memory};
 
 /// Appends the block of the lines: each with CRLF, and with one dot more where it begins with a dot, and then a dot and
 /// CRLF (RFC 3977, section 3.1.1). Where memory runs out, the bytes are as they were.

@@ -5,6 +5,7 @@ pub mod RemainderLaws
 pub mod FrontLaws
 pub mod CertainLaws
 pub mod GivenLaws
+pub mod WholeLaws
 pub mod BegunLaws
 pub mod KeptLaws
 pub mod ContentLaws
@@ -15,6 +16,7 @@ pub mod ModeLaws
 pub mod TakeLaws
 pub mod StepLaws
 pub mod RunLaws
+pub mod ManyLaws
 pub mod SkipLaws
 pub mod StartLaws
 pub mod PieceLaws

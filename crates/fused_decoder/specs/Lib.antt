@@ -9,9 +9,11 @@ pub use Rattle.yenc_body.specs.FirstFault
 pub mod HeardLine
 pub mod CertainBytes
 pub mod DataGiven
+pub mod WholeFile
 pub mod Remainder
 pub mod Machine
 pub mod Stands
 pub mod Steps
+pub mod Runs
 pub mod Pieces
 pub mod Laws

@@ -2,10 +2,10 @@
 use Rattle.std.proofs.Common.{◌<◌, ◌≡◌, ◌≤◌, ℕ, ◌+◌, List, ◌++◌, length, take, drop, Option, Some, None, Result, Ok, Err, IfOk, IfSome, OnSome, sym, ◌∙◌, ap, subst, arith, length-append, length-take}
 use Rattle.std.proofs.Math.Seq.{take-add}
 use Rattle.std.proofs.lemmas.List.{drop-drop}
-use Rattle.ub_base.specs.Causes.{Rose}
-use Rattle.ub_base.specs.Input.{GivesAt}
-use Rattle.ub_base.specs.declared.blame.Blame.{Blame}
-use Rattle.ub_base.specs.declared.blame.Blame.TheVariants.{Open, Read, Create, Write, SetLen, Send, Receive}
+use Rattle.io_traits.specs.Causes.{Rose}
+use Rattle.io_traits.specs.Input.{GivesAt}
+use Rattle.io_traits.specs.declared.blame.Blame.{Blame}
+use Rattle.io_traits.specs.declared.blame.Blame.TheVariants.{Open, Read, Create, Keep, Write, SetLen, Send, Receive}
 use Rattle.input_files.specs.Reading.{Reading, HasFailed, IsBelow, IsFaultless, IsIn, IsPiece, IsReadIn, IsReadOrOpen, IsShortAt, PieceEnds, ReadEnds}
 use Rattle.input_files.specs.declared.reading.ReadError.{ReadError}
 use Rattle.input_files.specs.declared.reading.ReadError.TheVariants.{Memory, Fault, Short, TooLong}
@@ -68,6 +68,7 @@ read_is_allowed path place len None is = tt
 read_is_allowed path place len (Some (Read at)) is = tt
 read_is_allowed path place len (Some (Open name)) is = absurd is
 read_is_allowed path place len (Some (Create file name)) is = absurd is
+read_is_allowed path place len (Some (Keep file name)) is = absurd is
 read_is_allowed path place len (Some (Write file at size)) is = absurd is
 read_is_allowed path place len (Some (SetLen file size)) is = absurd is
 read_is_allowed path place len (Some (Send link)) is = absurd is

@@ -1,11 +1,12 @@
 -- What is seen of an input before a call that reads a file, or a piece of it, and after it.
 use Rattle.std.specs.Prelude.{◌≡◌, ◌≤◌, ◌<◌, ◌+◌, ℕ, List, length, take, drop, Option, Some, None, Result, Ok, Err, IsSomeAnd, IfSome, OnSome, ⊤}
-use Rattle.ub_base.specs.Causes.{Rose}
-use Rattle.ub_base.specs.Input.{file_of}
-use Rattle.ub_base.specs.declared.blame.Blame.{Blame}
-use Rattle.ub_base.specs.declared.blame.Blame.TheVariants.{Read, Open}
+use Rattle.io_traits.specs.Causes.{Rose}
+use Rattle.io_traits.specs.Input.{file_of}
+use Rattle.io_traits.specs.declared.blame.Blame.{Blame}
+use Rattle.io_traits.specs.declared.blame.Blame.TheVariants.{Read, Open}
 use Rattle.input_files.specs.declared.reading.ReadError.{ReadError}
 use Rattle.input_files.specs.declared.reading.ReadError.TheVariants.{Memory, Fault, Short, TooLong}
+use Rattle.limits.specs.declared.TheConstants.{MOST_TEXT_BYTES}
 
 -- the counts of an input before and after, the place of its last short read, its current file's length, and its blame
 pub record Reading : Type 0 where
@@ -80,7 +81,7 @@ IsFileAt path (Some files) bytes = file_of path files ≡ Some bytes
 
 -- how many bytes a saved text may have
 abbrev pub most_text : ℕ
-most_text = 67108864
+most_text = MOST_TEXT_BYTES
 
 -- The text that the input tells at a path, as many bytes as the opened file has.
 pub record IsSaved (path : List ℕ) (files : Option (List (List ℕ × List ℕ))) (current : Option ℕ) (text : List ℕ) : Type 0 where

@@ -2,8 +2,9 @@
 ghost use Rattle.std.specs.Prelude.{◌≡◌, ◌≤◌, ◌<◌, ◌+◌, ◌^◌, length, OnOk, IfOk, IsSomeAnd};
 ghost use Rattle.input_files.specs.Reading.{reading, IsFileAt, IsPiece, IsReadOrOpen, ReadEnds, PieceEnds};
 
+use io_traits::{Failed, Input};
+use lists::{Bytes, Memory};
 use std::alloc::Global;
-use ub_base::{Bytes, Failed, Input, Memory};
 
 // How many bytes are asked of the input at once.
 const PIECE: usize = 65_536;

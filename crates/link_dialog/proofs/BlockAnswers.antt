@@ -1,7 +1,7 @@
 -- What hearing a reply with a block answers, by what the last piece did.
 use Rattle.std.proofs.Common.{◌≡◌, ◌<◌, ◌+◌, ◌-◌, ℕ, true, false, List, [], ◌++◌, Option, Some, refl, sym, subst, ◌∙◌, take, drop, length, arith}
 use Rattle.std.proofs.lemmas.List.{take_rest}
-use Rattle.ub_base.specs.declared.links.LinkEvent.{LinkEvent}
+use Rattle.io_traits.specs.declared.links.LinkEvent.{LinkEvent}
 use Rattle.nntp_lines.specs.declared.why.Why.TheVariants as why
 use Rattle.link_dialog.specs.declared.awaited.Awaited.{Awaited}
 use Rattle.link_dialog.specs.declared.answer.Answer.TheVariants as answer

@@ -2,9 +2,9 @@
 use Rattle.std.proofs.Common.{◌≡◌, ◌<◌, ◌≤◌, ◌+◌, ◌-◌, ◌*◌, ℕ, true, List, [], ◌∷◌, ◌++◌, Option, Some, None, ap, sym, subst, ◌∙◌, append_assoc, append-nil, take, drop, length, arith}
 use Rattle.std.proofs.Math.Nat.{mul-le-mul_right}
 use Rattle.std.proofs.lemmas.List.{length-append, length-take-le, length-drop, take_all, take-append-drop}
-use Rattle.ub_base.specs.declared.links.LinkEvent.{LinkEvent}
-use Rattle.ub_base.specs.declared.links.LinkEvent.TheVariants.{Heard as HeardBytes, Quiet}
-use Rattle.ub_base.specs.Links.{tell}
+use Rattle.io_traits.specs.declared.links.LinkEvent.{LinkEvent}
+use Rattle.io_traits.specs.declared.links.LinkEvent.TheVariants.{Heard as HeardBytes, Quiet}
+use Rattle.io_traits.specs.Links.{tell}
 use Rattle.dot_blocks.specs.Blocks.{IsBlock}
 use Rattle.dot_blocks.specs.BlockReading.{front_block}
 use Rattle.nntp_lines.specs.declared.why.Why.TheVariants as why
@@ -24,6 +24,7 @@ use Rattle.link_dialog.specs.BlockHearing.{BlockSoFar}
 use Rattle.link_dialog.proofs.Feeding.{byte_goes_on, byte_ends_reply, byte_ends_link, unasked_in_piece, nothing_yet}
 use Rattle.link_dialog.proofs.BlockSteps.{goes_on_none, before_end_none, nothing_none, block_goes_on, block_ends, block_too_long, line_bytes, listens_through, front_bytes, front_split}
 use Rattle.link_dialog.proofs.Hearings.{piece_heard_to, quiet_heard_to, piece_to_end}
+use Rattle.limits.specs.declared.TheConstants.{MOST_TEXT_BYTES}
 
 -- ---- within a piece
 
@@ -119,7 +120,7 @@ pub piece_more : (before after : Option (List LinkEvent)) (link patience : ℕ) 
 piece_more before after link patience kind code piece u block old new kept_old kept_new patient has s stands count steps =
     let left = rest_long piece u s.inside in
     let step = steps stands in
-    let small : new.heard ≤ 67108864 = new.within in
+    let small : new.heard ≤ MOST_TEXT_BYTES = new.within in
     let grew : new.heard ≡ old.heard + length (drop u piece) = step.1 in
     let through : (asked : List ℕ → List Awaited) (moment : List LinkEvent) (replies : List Reply) → IsListening patience asked moment (state_of replies (kind ∷ []) s.so_far.bytes) → ListensAt patience link asked moment replies kind s.so_far.bytes piece =
     λ asked moment replies listening.
@@ -226,8 +227,8 @@ block_quiet before now after link patience kind code reader kept quiet s told fe
     }
 
 -- the measure falls at a piece after which the block goes on
-pub falls_in_block : (before after n patience quiet : ℕ) → after ≡ before + n → 0 < n → after ≤ 67108864 → (67108864 - after) * (patience + 1) + (patience - 0) < (67108864 - before) * (patience + 1) + (patience - quiet)
+pub falls_in_block : (before after n patience quiet : ℕ) → after ≡ before + n → 0 < n → after ≤ MOST_TEXT_BYTES → (MOST_TEXT_BYTES - after) * (patience + 1) + (patience - 0) < (MOST_TEXT_BYTES - before) * (patience + 1) + (patience - quiet)
 falls_in_block before after n patience quiet grew some small =
-    let less : (67108864 - after) + 1 ≤ 67108864 - before = omega arith in
-    let product : ((67108864 - after) + 1) * (patience + 1) ≤ (67108864 - before) * (patience + 1) = mul-le-mul_right (patience + 1) less in
+    let less : (MOST_TEXT_BYTES - after) + 1 ≤ MOST_TEXT_BYTES - before = omega arith in
+    let product : ((MOST_TEXT_BYTES - after) + 1) * (patience + 1) ≤ (MOST_TEXT_BYTES - before) * (patience + 1) = mul-le-mul_right (patience + 1) less in
     omega (arith, product)

@@ -1,8 +1,8 @@
 -- What one more event, or more events, do to what a trace says of a link.
 use Rattle.std.proofs.Common.{◌≡◌, ℕ, ◌+◌, false, List, [], ◌∷◌, ◌++◌, refl, ap, sym, ◌∙◌, append_assoc}
-use Rattle.ub_base.specs.declared.links.LinkEvent.{LinkEvent}
-use Rattle.ub_base.specs.declared.links.LinkEvent.TheVariants.{Opened, Sent, Heard, Quiet, Ended}
-use Rattle.ub_base.specs.Trace.{sent, heard}
+use Rattle.io_traits.specs.declared.links.LinkEvent.{LinkEvent}
+use Rattle.io_traits.specs.declared.links.LinkEvent.TheVariants.{Opened, Sent, Heard, Quiet, Ended}
+use Rattle.io_traits.specs.Trace.{sent, heard}
 use Rattle.link_dialog.specs.Events.{quiet_after, has_ended, fine, single_bytes}
 
 pub sent-append : (before after : List LinkEvent) → sent (before ++ after) ≡ sent before ++ sent after

@@ -1,8 +1,8 @@
 -- A piece that is heard, byte by byte.
 use Rattle.std.proofs.Common.{◌≡◌, ◌<◌, ◌≤◌, ◌+◌, ◌-◌, ℕ, List, [], ◌∷◌, ◌++◌, Some, None, ap, sym, subst, ◌∙◌, append_assoc, append-nil, take, drop, length, get_or, arith}
-use Rattle.std.proofs.lemmas.List.{map_more, take_more, map-append, take-append-drop, take_all}
-use Rattle.ub_base.specs.declared.links.LinkEvent.{LinkEvent}
-use Rattle.ub_base.specs.declared.links.LinkEvent.TheVariants.{Heard}
+use Rattle.std.proofs.lemmas.List.{length-take, map_more, take_more, map-append, take-append-drop, take_all}
+use Rattle.io_traits.specs.declared.links.LinkEvent.{LinkEvent}
+use Rattle.io_traits.specs.declared.links.LinkEvent.TheVariants.{Heard}
 use Rattle.nntp_lines.specs.declared.why.Why.{Why}
 use Rattle.nntp_lines.specs.declared.why.Why.TheVariants.{Unasked}
 use Rattle.link_dialog.specs.declared.awaited.Awaited.{Awaited}
@@ -10,10 +10,10 @@ use Rattle.link_dialog.specs.declared.reader.Reader.{Reader}
 use Rattle.link_dialog.specs.declared.reader.Step.{Step}
 use Rattle.link_dialog.specs.declared.reader.Step.TheVariants.{More, Line, Over}
 use Rattle.link_dialog.specs.Events.{single_bytes}
-use Rattle.link_dialog.specs.Replies.{Reply, whole_reply, why_of_rest}
+use Rattle.link_dialog.specs.Replies.{Reply, whole_reply, why_of_rest, first_line}
 use Rattle.link_dialog.specs.Reader.{StandsFor, Says}
 use Rattle.link_dialog.specs.Moments.{IsListening, IsOver, state_of}
-use Rattle.link_dialog.specs.Fed.{ListensAt, IsFed, IsRead}
+use Rattle.link_dialog.specs.Fed.{ListensAt, IsFed, IsRead, EndsAt}
 use Rattle.link_dialog.proofs.MomentSteps.{Asked, hear_more, hear_reply, hear_over, hear_unasked, over_stays}
 
 -- one byte more of a piece
@@ -100,6 +100,27 @@ line_goes_on_in kind rest piece i before after below stands says = (says_next ki
 
 pub line_ends_in : (kind : Awaited) (rest piece : List ℕ) (i code : ℕ) (before after : Reader) → i < length piece → StandsFor before (rest ++ take i piece) → ((r : List ℕ) → StandsFor before r → Says kind (r ++ get_or piece i 0 ∷ []) (Line code) after) → IsRead kind rest piece (i + 1) (Line code) after
 line_ends_in kind rest piece i code before after below stands says = (omega arith, says_next kind rest piece i (Line code) before after below stands says)
+
+unfinished_before : (rest piece : List ℕ) (i : ℕ) (before : Reader) → StandsFor before (rest ++ take i piece) → first_line (rest ++ take ((i + 1) - 1) piece) ≡ None
+unfinished_before rest piece i before stands = let back : (i + 1) - 1 ≡ i = omega arith in rw back stands.unfinished
+
+short_before : (rest piece : List ℕ) (i : ℕ) (before : Reader) → StandsFor before (rest ++ take i piece) → length (rest ++ take ((i + 1) - 1) piece) < 512
+short_before rest piece i before stands =
+    let back : (i + 1) - 1 ≡ i = omega arith in
+    let below : before.len < 512 = before.in_range in
+    let same : length (take before.len before.line) ≡ length (rest ++ take i piece) = ap length stands.bytes in
+    rw back (omega (arith, below, same, length-take before.len before.line))
+
+-- the piece ended the line, or the link
+pub line_ended_at : (kind : Awaited) (rest piece : List ℕ) (i code : ℕ) (before : Reader) → StandsFor before (rest ++ take i piece) → EndsAt kind rest piece (i + 1) (Line code)
+line_ended_at kind rest piece i code before stands = unfinished_before rest piece i before stands
+
+pub link_ended_at : (kind : Awaited) (rest piece : List ℕ) (i : ℕ) (reason : Why) (before after : Reader) → i < length piece → StandsFor before (rest ++ take i piece) → ((r : List ℕ) → StandsFor before r → Says kind (r ++ get_or piece i 0 ∷ []) (Over reason) after) → EndsAt kind rest piece (i + 1) (Over reason)
+link_ended_at kind rest piece i reason before after below stands says = (
+  unfinished_before rest piece i before stands,
+  short_before rest piece i before stands,
+  (says_next kind rest piece i (Over reason) before after below stands says).1,
+)
 
 -- before the first byte
 pub nothing_yet : (p link : ℕ) (asked : Asked) (m : List LinkEvent) (replies : List Reply) (kind : Awaited) (rest : List ℕ) → IsListening p asked m (state_of replies (kind ∷ []) rest) → ListensAt p link asked m replies kind rest []

@@ -2,10 +2,10 @@
 use Rattle.std.proofs.Common.{◌≡◌, ◌<◌, ◌+◌, ◌≤◌, ◌-◌, ◌*◌, ℕ, true, false, List, [], ◌∷◌, ◌++◌, Option, Some, None, refl, ap, sym, subst, ◌∙◌, append_assoc, append-nil, length, take, arith}
 use Rattle.std.proofs.Math.Nat.{mul-le-mul_right}
 use Rattle.std.proofs.lemmas.List.{take_all}
-use Rattle.ub_base.specs.declared.links.LinkEvent.{LinkEvent}
-use Rattle.ub_base.specs.declared.links.LinkEvent.TheVariants.{Heard as HeardBytes, Quiet, Ended}
-use Rattle.ub_base.specs.Links.{tell}
-use Rattle.ub_base.specs.Trace.{link_of, sent}
+use Rattle.io_traits.specs.declared.links.LinkEvent.{LinkEvent}
+use Rattle.io_traits.specs.declared.links.LinkEvent.TheVariants.{Heard as HeardBytes, Quiet, Ended}
+use Rattle.io_traits.specs.Links.{tell}
+use Rattle.io_traits.specs.Trace.{link_of, sent}
 use Rattle.nntp_lines.specs.declared.why.Why.{Why}
 use Rattle.nntp_lines.specs.declared.why.Why.TheVariants.{Ended as EndedLink, Quiet as QuietLink, Unasked}
 use Rattle.nntp_lines.specs.declared.why.Why.TheVariants.{NoReply}

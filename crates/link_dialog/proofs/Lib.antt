@@ -11,6 +11,7 @@ pub mod Hearings
 pub mod Turns
 pub mod Standing
 pub mod Talking
+pub mod Sessions
 pub mod Logins
 pub mod BlockSteps
 pub mod BlockReaders

@@ -2,7 +2,7 @@
 use Rattle.std.proofs.Common.{◌≡◌, ◌≢◌, ◌≤◌, ℕ, Bool, true, false, List, [], ◌∷◌, Option, Some, None, Ok, Err, refl, ap, sym, subst, ◌∙◌, append-nil, length, arith, cond}
 use Rattle.std.specs.Prelude.{◌==◌, slice_get}
 use Rattle.std.proofs.lemmas.Bool.{ne_eqb}
-use Rattle.ub_base.specs.declared.links.LinkEvent.{LinkEvent}
+use Rattle.io_traits.specs.declared.links.LinkEvent.{LinkEvent}
 use Rattle.nntp_lines.specs.declared.login.Login.{Login}
 use Rattle.nntp_lines.specs.declared.why.Why.{Why}
 use Rattle.link_dialog.specs.declared.dialog.Dialog.{Dialog}

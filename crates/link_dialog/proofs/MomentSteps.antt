@@ -2,9 +2,9 @@
 use Rattle.std.proofs.Common.{◌≡◌, ◌<◌, ◌≤◌, ◌+◌, ℕ, true, false, List, [], ◌∷◌, ◌++◌, Option, Some, None, refl, ap, sym, subst, ◌∙◌, append_assoc, append-nil, arith, cond}
 use Rattle.std.specs.Prelude.{is_some, nat_le}
 use Rattle.std.proofs.lemmas.Bool.Decides.{nat_tests}
-use Rattle.ub_base.specs.declared.links.LinkEvent.{LinkEvent}
-use Rattle.ub_base.specs.declared.links.LinkEvent.TheVariants.{Sent, Heard, Quiet, Ended}
-use Rattle.ub_base.specs.Trace.{sent, heard}
+use Rattle.io_traits.specs.declared.links.LinkEvent.{LinkEvent}
+use Rattle.io_traits.specs.declared.links.LinkEvent.TheVariants.{Sent, Heard, Quiet, Ended}
+use Rattle.io_traits.specs.Trace.{sent, heard}
 use Rattle.link_dialog.specs.Events.{quiet_after, quiets_at_end, has_ended}
 use Rattle.link_dialog.proofs.EventSteps.{sent-append, heard-append, quiet_after-append, has_ended-append}
 use Rattle.link_dialog.specs.declared.awaited.Awaited.{Awaited}

@@ -1,13 +1,13 @@
 -- Worked cases of replies, of why a link is over, and of dialogs.
 use Rattle.std.proofs.Common.{◌≡◌, ℕ, List, [], ◌∷◌, ◌++◌, Some, None, refl}
 use Rattle.std.specs.Prelude.{codes, replicate}
-use Rattle.ub_base.specs.declared.links.LinkEvent.{LinkEvent}
-use Rattle.ub_base.specs.declared.links.LinkEvent.TheVariants.{Sent, Heard, Quiet, Ended}
+use Rattle.io_traits.specs.declared.links.LinkEvent.{LinkEvent}
+use Rattle.io_traits.specs.declared.links.LinkEvent.TheVariants.{Sent, Heard, Quiet, Ended}
 use Rattle.nntp_lines.specs.declared.why.Why.TheVariants as why
 use Rattle.nntp_lines.specs.StatusLine.{status_of}
 use Rattle.dot_blocks.specs.BlockReading.{block_from}
 use Rattle.link_dialog.specs.declared.awaited.Awaited.TheVariants.{Greeting, User, Post, Article, Over}
-use Rattle.link_dialog.specs.Replies.{Reply, whole_reply, why_of_rest}
+use Rattle.link_dialog.specs.Replies.{whole_reply, why_of_rest}
 use Rattle.link_dialog.specs.Moments.{why_over, replies_heard}
 use Rattle.link_dialog.specs.Dialog.{Message, message_of, asked_by}
 

@@ -3,8 +3,8 @@ use Rattle.std.proofs.Common.{◌≡◌, ◌+◌, ℕ, Bool, true, List, [], ◌
 use Rattle.std.specs.Prelude.{Result, MatchResult, slice_get}
 use Rattle.std.proofs.lemmas.List.{length-append, get_or_push}
 use Rattle.std.proofs.lemmas.Option.{slice_get_read}
-use Rattle.ub_base.specs.declared.links.LinkEvent.{LinkEvent}
-use Rattle.ub_base.specs.Trace.{sent}
+use Rattle.io_traits.specs.declared.links.LinkEvent.{LinkEvent}
+use Rattle.io_traits.specs.Trace.{sent}
 use Rattle.nntp_lines.specs.declared.login.Login.{Login}
 use Rattle.nntp_lines.specs.declared.why.Why.{Why}
 use Rattle.nntp_lines.specs.declared.why.Why.TheVariants as why

@@ -4,9 +4,9 @@ use Rattle.std.specs.List.{concat}
 use Rattle.std.proofs.lemmas.List.{map-append}
 use Rattle.std.proofs.lemmas.List.{length-take-le, take_all}
 use Rattle.std.proofs.Math.Seq.{take-add}
-use Rattle.ub_base.specs.declared.links.LinkEvent.{LinkEvent}
-use Rattle.ub_base.specs.declared.links.LinkEvent.TheVariants.{Sent, Ended}
-use Rattle.ub_base.specs.Links.{tell}
+use Rattle.io_traits.specs.declared.links.LinkEvent.{LinkEvent}
+use Rattle.io_traits.specs.declared.links.LinkEvent.TheVariants.{Sent, Ended}
+use Rattle.io_traits.specs.Links.{tell}
 use Rattle.link_dialog.specs.Sending.{sends, ArePieces, SentWhole, SentInPart}
 
 pub tell-tell : (told : Option (List LinkEvent)) (first second : List LinkEvent) → tell (tell told first) second ≡ tell told (first ++ second)

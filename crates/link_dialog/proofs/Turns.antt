@@ -4,9 +4,9 @@ use Rattle.std.specs.Prelude.{map, nat_le, ◌==◌}
 use Rattle.std.specs.List.{concat}
 use Rattle.std.proofs.lemmas.Bool.Decides.{nat_tests}
 use Rattle.std.proofs.lemmas.List.{length-append}
-use Rattle.ub_base.specs.declared.links.LinkEvent.{LinkEvent}
-use Rattle.ub_base.specs.declared.links.LinkEvent.TheVariants.{Sent}
-use Rattle.ub_base.specs.Trace.{sent}
+use Rattle.io_traits.specs.declared.links.LinkEvent.{LinkEvent}
+use Rattle.io_traits.specs.declared.links.LinkEvent.TheVariants.{Sent}
+use Rattle.io_traits.specs.Trace.{sent}
 use Rattle.link_dialog.specs.declared.awaited.Awaited.{Awaited}
 use Rattle.link_dialog.specs.Events.{fine, quiet_after, quiets_at_end}
 use Rattle.link_dialog.specs.Reading.{Reading}

@@ -1,6 +1,6 @@
 -- What hearing a reply with a block tells, piece by piece.
 use Rattle.std.specs.Prelude.{◌≡◌, ◌+◌, ℕ, Bool, true, List, [], ◌∷◌, ◌++◌, Option, Some, None, length}
-use Rattle.ub_base.specs.declared.links.LinkEvent.{LinkEvent}
+use Rattle.io_traits.specs.declared.links.LinkEvent.{LinkEvent}
 use Rattle.dot_blocks.specs.Blocks.{IsBlock}
 use Rattle.nntp_lines.specs.declared.why.Why.TheVariants as why
 use Rattle.link_dialog.specs.declared.awaited.Awaited.{Awaited}

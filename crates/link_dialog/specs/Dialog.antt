@@ -1,9 +1,9 @@
 -- A dialog on one link: messages sent one at a time, each after the reply to the one before.
-use Rattle.std.specs.Prelude.{◌≡◌, ◌≢◌, ◌==◌, ◌+◌, ◌-◌, ◌≤◌, ◌<◌, ℕ, List, [], ◌∷◌, ◌++◌, Option, Some, None, if◌then◌else◌, nat_le, length}
+use Rattle.std.specs.Prelude.{◌≡◌, ◌≢◌, ◌==◌, ◌+◌, ◌-◌, ◌≤◌, ◌<◌, ℕ, List, [], ◌∷◌, ◌++◌, Option, Some, None, if◌then◌else◌, nat_le, length, drop}
 use Rattle.std.specs.List.{flat_map, AllByRecursion}
-use Rattle.ub_base.specs.declared.links.LinkEvent.{LinkEvent}
-use Rattle.ub_base.specs.declared.links.LinkEvent.TheVariants.{Opened, Sent, Heard, Quiet, Ended}
-use Rattle.ub_base.specs.Trace.{sent}
+use Rattle.io_traits.specs.declared.links.LinkEvent.{LinkEvent}
+use Rattle.io_traits.specs.declared.links.LinkEvent.TheVariants.{Opened, Sent, Heard, Quiet, Ended}
+use Rattle.io_traits.specs.Trace.{sent}
 use Rattle.nntp_lines.specs.Command.{user_line, pass_line, crlf}
 use Rattle.nntp_lines.specs.declared.login.Login.{Login}
 use Rattle.link_dialog.specs.declared.awaited.Awaited.{Awaited}
@@ -91,6 +91,10 @@ login_messages (Some login) [] = user_message login ∷ []
 login_messages (Some login) (greeting ∷ []) = user_message login ∷ []
 login_messages (Some login) (greeting ∷ answer ∷ replies) =
     user_message login ∷ (if answer.code == 381 then pass_message login ∷ [] else [])
+
+-- the replies to the messages behind the login, in order: all but the greeting and those to the commands of the login
+abbrev pub answers_of : Option Login → List Reply → List Reply
+answers_of login replies = drop (1 + length (login_messages login replies)) replies
 
 -- the replies heard on a link on which these messages are said
 abbrev pub answers_to : ℕ → List Message → List LinkEvent → List Reply

@@ -2,9 +2,9 @@
 -- event of its own, so that nothing depends on how the bytes were cut into receives.
 use Rattle.std.specs.Prelude.{◌≡◌, ◌+◌, ℕ, Bool, true, false, List, [], ◌∷◌, ◌++◌, map}
 use Rattle.std.specs.List.{AllByRecursion}
-use Rattle.ub_base.specs.declared.links.LinkEvent.{LinkEvent}
-use Rattle.ub_base.specs.declared.links.LinkEvent.TheVariants.{Opened, Sent, Heard, Quiet, Ended}
-use Rattle.ub_base.specs.Trace.{link_of}
+use Rattle.io_traits.specs.declared.links.LinkEvent.{LinkEvent}
+use Rattle.io_traits.specs.declared.links.LinkEvent.TheVariants.{Opened, Sent, Heard, Quiet, Ended}
+use Rattle.io_traits.specs.Trace.{link_of}
 
 -- each event is on this link
 abbrev pub AllOn : ℕ → List LinkEvent → Type 0

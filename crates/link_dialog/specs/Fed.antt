@@ -1,12 +1,12 @@
 -- What a piece that was heard of a status line did, at a moment at which one reply is awaited.
-use Rattle.std.specs.Prelude.{◌≡◌, ◌<◌, ◌-◌, ℕ, List, [], ◌∷◌, ◌++◌, take, length}
-use Rattle.ub_base.specs.declared.links.LinkEvent.{LinkEvent}
+use Rattle.std.specs.Prelude.{◌≡◌, ◌<◌, ◌-◌, ℕ, List, [], ◌∷◌, ◌++◌, Some, None, take, length}
+use Rattle.io_traits.specs.declared.links.LinkEvent.{LinkEvent}
 use Rattle.link_dialog.specs.declared.awaited.Awaited.{Awaited}
 use Rattle.link_dialog.specs.declared.reader.Reader.{Reader}
 use Rattle.link_dialog.specs.declared.reader.Step.{Step}
 use Rattle.link_dialog.specs.declared.reader.Step.TheVariants.{More, Line, Over}
 use Rattle.link_dialog.specs.Events.{single_bytes}
-use Rattle.link_dialog.specs.Replies.{Reply}
+use Rattle.link_dialog.specs.Replies.{Reply, first_line, why_of_rest}
 use Rattle.link_dialog.specs.Moments.{IsListening, IsOver, state_of}
 use Rattle.link_dialog.specs.Reader.{StandsFor, IsLine}
 
@@ -26,3 +26,11 @@ abbrev pub IsFed : ℕ → ℕ → (List ℕ → List Awaited) → List LinkEven
 IsFed patience link asked moment replies kind rest piece used More = ListensAt patience link asked moment replies kind rest piece
 IsFed patience link asked moment replies kind rest piece used (Line code) = ListensAt patience link asked moment replies kind rest (take (used - 1) piece)
 IsFed patience link asked moment replies kind rest piece used (Over reason) = IsOver patience asked (moment ++ single_bytes link piece) reason replies
+
+-- where the piece ended the line or the link, no line was whole before its last used byte, and it wasn't too long; and why it ended
+-- the link
+abbrev pub EndsAt : Awaited → List ℕ → List ℕ → ℕ → Step → Type 0
+EndsAt kind rest piece used More = Unit {0}
+EndsAt kind rest piece used (Line code) = first_line (rest ++ take (used - 1) piece) ≡ None
+EndsAt kind rest piece used (Over reason) =
+    (first_line (rest ++ take (used - 1) piece) ≡ None) × (length (rest ++ take (used - 1) piece) < 512) × (why_of_rest (kind ∷ []) (rest ++ take used piece) ≡ Some reason)

@@ -1,6 +1,6 @@
 -- What hearing a reply of one line answers, and the reply to GROUP.
 use Rattle.std.specs.Prelude.{◌≡◌, ◌≢◌, ℕ, Bool, true, List, [], ◌∷◌, Option, Some, None, ⊤}
-use Rattle.ub_base.specs.declared.links.LinkEvent.{LinkEvent}
+use Rattle.io_traits.specs.declared.links.LinkEvent.{LinkEvent}
 use Rattle.nntp_lines.specs.declared.why.Why.TheVariants as why
 use Rattle.link_dialog.specs.declared.awaited.Awaited.{Awaited}
 use Rattle.link_dialog.specs.declared.answer.Answer.{Answer}

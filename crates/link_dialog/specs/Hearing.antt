@@ -1,9 +1,9 @@
 -- What hearing one reply tells, and what that means wherever such a reply is awaited.
 use Rattle.std.specs.Prelude.{◌≡◌, ◌-◌, ℕ, List, [], ◌∷◌, ◌++◌, Option, Some, None, take}
-use Rattle.ub_base.specs.declared.links.LinkEvent.{LinkEvent}
-use Rattle.ub_base.specs.declared.links.LinkEvent.TheVariants.{Heard as HeardBytes}
-use Rattle.ub_base.specs.Links.{tell}
-use Rattle.ub_base.specs.Trace.{sent}
+use Rattle.io_traits.specs.declared.links.LinkEvent.{LinkEvent}
+use Rattle.io_traits.specs.declared.links.LinkEvent.TheVariants.{Heard as HeardBytes}
+use Rattle.io_traits.specs.Links.{tell}
+use Rattle.io_traits.specs.Trace.{sent}
 use Rattle.nntp_lines.specs.declared.why.Why.{Why}
 use Rattle.link_dialog.specs.declared.awaited.Awaited.{Awaited}
 use Rattle.link_dialog.specs.declared.reader.Reader.{Reader}

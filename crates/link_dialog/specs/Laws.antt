@@ -1,6 +1,6 @@
 -- Laws of replies and dialogs.
 use Rattle.std.specs.Prelude.{◌≡◌, ℕ, List, ◌++◌, None}
-use Rattle.ub_base.specs.declared.links.LinkEvent.{LinkEvent}
+use Rattle.io_traits.specs.declared.links.LinkEvent.{LinkEvent}
 use Rattle.link_dialog.specs.declared.awaited.Awaited.{Awaited}
 use Rattle.link_dialog.specs.Reading.{Reading, reading_of, with_replies, IsSplit, IsPrefixFree}
 use Rattle.link_dialog.specs.Replies.{Reply, whole_reply}

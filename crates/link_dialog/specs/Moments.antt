@@ -1,7 +1,7 @@
 -- What holds of one link at a moment. `asked bytes` has the kinds of the messages that are whole in these bytes sent.
 use Rattle.std.specs.Prelude.{◌≡◌, ℕ, false, List, [], ◌∷◌, ◌++◌, Option, Some, None, if◌then◌else◌, nat_le, is_some}
-use Rattle.ub_base.specs.declared.links.LinkEvent.{LinkEvent}
-use Rattle.ub_base.specs.Trace.{sent, heard}
+use Rattle.io_traits.specs.declared.links.LinkEvent.{LinkEvent}
+use Rattle.io_traits.specs.Trace.{sent, heard}
 use Rattle.nntp_lines.specs.declared.why.Why.{Why}
 use Rattle.nntp_lines.specs.declared.why.Why.TheVariants.{Ended, Quiet}
 use Rattle.link_dialog.specs.declared.awaited.Awaited.{Awaited}

@@ -10,6 +10,7 @@ use Rattle.nntp_lines.specs.StatusLine.{status_of}
 use Rattle.dot_blocks.specs.BlockReading.{front_block}
 use Rattle.link_dialog.specs.declared.awaited.Awaited.{Awaited}
 use Rattle.link_dialog.specs.declared.awaited.Awaited.TheVariants.{Greeting, User, Pass, Post, Article, Group, Over, Body, Quit}
+use Rattle.limits.specs.declared.TheConstants.{MOST_TEXT_BYTES}
 
 -- what a reply says: its code, its status line without the CRLF, and the lines of its block, if it has one
 pub record Reply : Type 0 where
@@ -88,7 +89,7 @@ judged kind line = judged_code kind line (status_of line)
 
 -- the most bytes that a reply may have: 64 MiB
 abbrev pub most : ℕ
-most = 67108864
+most = MOST_TEXT_BYTES
 
 -- a reply that ends here, with no byte behind it
 abbrev pub reply_at_end : ℕ → List ℕ → List (List ℕ) → List ℕ → Option Reply

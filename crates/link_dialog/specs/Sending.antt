@@ -1,9 +1,9 @@
 -- What sending tells.
 use Rattle.std.specs.Prelude.{◌≡◌, ◌<◌, ℕ, List, [], ◌∷◌, ◌++◌, Option, length, take, map}
 use Rattle.std.specs.List.{concat, AllByRecursion}
-use Rattle.ub_base.specs.declared.links.LinkEvent.{LinkEvent}
-use Rattle.ub_base.specs.declared.links.LinkEvent.TheVariants.{Sent, Ended}
-use Rattle.ub_base.specs.Links.{tell}
+use Rattle.io_traits.specs.declared.links.LinkEvent.{LinkEvent}
+use Rattle.io_traits.specs.declared.links.LinkEvent.TheVariants.{Sent, Ended}
+use Rattle.io_traits.specs.Links.{tell}
 
 -- one event for each piece
 abbrev pub sends : ℕ → List (List ℕ) → List LinkEvent

@@ -1,12 +1,12 @@
 -- Where a dialog stands, in the terms of its caller.
 use Rattle.std.specs.Prelude.{◌≡◌, ◌<◌, ◌≤◌, ◌+◌, ℕ, Bool, true, List, [], ◌∷◌, ◌++◌, Option, Some, Result, Ok, Err, length, take, slice_get, ⊤}
-use Rattle.ub_base.specs.declared.links.LinkEvent.{LinkEvent}
-use Rattle.ub_base.specs.declared.links.LinkEvent.TheVariants.{Opened}
-use Rattle.ub_base.specs.Links.{tell}
-use Rattle.ub_base.specs.Causes.{Rose, BlamesNamed}
-use Rattle.ub_base.specs.declared.blame.Blame.{Blame}
-use Rattle.ub_base.specs.declared.blame.Blame.TheVariants as blames
-use Rattle.ub_base.specs.Trace.{sent}
+use Rattle.io_traits.specs.declared.links.LinkEvent.{LinkEvent}
+use Rattle.io_traits.specs.declared.links.LinkEvent.TheVariants.{Opened}
+use Rattle.io_traits.specs.Links.{tell}
+use Rattle.io_traits.specs.Causes.{Rose, BlamesNamed}
+use Rattle.io_traits.specs.declared.blame.Blame.{Blame}
+use Rattle.io_traits.specs.declared.blame.Blame.TheVariants as blames
+use Rattle.io_traits.specs.Trace.{sent}
 use Rattle.nntp_lines.specs.Command.{quit_line, crlf}
 use Rattle.nntp_lines.specs.declared.login.Login.{Login}
 use Rattle.nntp_lines.specs.declared.why.Why.{Why}
@@ -161,10 +161,15 @@ IsNotOpen start now patience not_open.NoLink = now ≡ start.before
 IsNotOpen start now patience (not_open.Over reason) =
     (out : List ℕ) × (replies : List Reply) × Ends start now patience [] out reason replies
 
-abbrev pub RoseAtOpening : ℕ → ℕ → Option (Option Blame) → Option (Option Blame) → List ℕ → NotOpen → Type 0
-RoseAtOpening before now blame_before blame_now address not_open.NoLink =
+-- the opening of a link to this address failed: the count of faults rose, and the call is blamed where that is told
+abbrev pub OpeningFailed : (before now : ℕ) → (blame_before blame_now : Option (Option Blame)) → List ℕ → Type 0
+OpeningFailed before now blame_before blame_now address =
     Rose before now × BlamesNamed {T = ℕ} {E = ℕ} blame_before blame_now (blames.Open address) (Err 0)
-RoseAtOpening before now blame_before blame_now address (not_open.Over reason) = ⊤
+
+-- a fact where no link was opened
+abbrev pub OnNoLink : NotOpen → Type 0 → Type 0
+OnNoLink not_open.NoLink fact = fact
+OnNoLink (not_open.Over reason) fact = ⊤
 
 -- Saying: the message went out whole, and its reply is awaited, or the link ended after a front of it.
 abbrev pub IsSaid : Start → Option (List LinkEvent) → Dialog → List Message → Message → List Reply → Result (Unit {0}) Cut → Type 0
@@ -179,6 +184,12 @@ quit_message = message_of Quit (quit_line ++ crlf)
 
 abbrev pub IsQuit : Start → Option (List LinkEvent) → Dialog → List Message → List Reply → Type 0
 IsQuit start now dialog messages replies = Talked start now dialog.patience (messages ++ quit_message ∷ []) replies
+
+-- A message was said behind these, its reply has this code, and the dialog ends with QUIT: how a session ends at a refusal.
+pub record IsRefused (start : Start) (now : Option (List LinkEvent)) (patience : ℕ) (messages : List Message) (message : Message) (replies : List Reply) (code : ℕ) : Type 0 where
+  pub reply : Reply
+  pub code_is : reply.code ≡ code
+  pub talked : Talked start now patience ((messages ++ message ∷ []) ++ quit_message ∷ []) (replies ++ reply ∷ [])
 
 -- Hearing a reply of one line: it was heard whole, or bytes behind it too, or the link is over without it.
 abbrev pub IsHeard : Start → Option (List LinkEvent) → Dialog → List Message → Awaited → List Reply → Answer → Type 0

@@ -1,6 +1,6 @@
 -- Hearing a reply that may have a block, and the reply to GROUP, in the terms of the caller of a dialog.
 use Rattle.std.specs.Prelude.{◌≡◌, ◌≢◌, ℕ, Bool, true, List, [], ◌∷◌, ◌++◌, Option, Some}
-use Rattle.ub_base.specs.declared.links.LinkEvent.{LinkEvent}
+use Rattle.io_traits.specs.declared.links.LinkEvent.{LinkEvent}
 use Rattle.nntp_lines.specs.declared.why.Why.TheVariants as why
 use Rattle.link_dialog.specs.declared.awaited.Awaited.{Awaited}
 use Rattle.link_dialog.specs.declared.answer.Answer.{Answer}

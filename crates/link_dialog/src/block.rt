@@ -1,12 +1,11 @@
 // The block behind a status line, in pieces.
 ghost use Rattle.std.specs.Prelude.{◌≡◌, ◌≤◌, ◌<◌, ◌++◌, ◌∷◌, [], ℕ, List, true, length, take, IfSome, IfNone};
 ghost use Rattle.link_dialog.specs.Block.{IsInBlock, IsBlockOf, IsKept};
+ghost use Rattle.limits.specs.declared.TheConstants.{MOST_TEXT_BYTES};
 
 use dot_blocks::{Frame, Framer};
-use ub_base::{Bytes, Memory};
-
-// The most bytes that a reply may have.
-const MOST: usize = 67_108_864;
+use limits::MOST_TEXT_BYTES;
+use lists::{Bytes, Memory};
 
 /// What a piece of a block did.
 #[derive(Clone, Copy)]
@@ -27,7 +26,7 @@ pub(crate) struct BlockReader {
     heard: usize,
     // Whether there was room for all bytes of the block so far.
     kept: bool,
-    ghost within: { heard ≤ 67108864 },
+    ghost within: { heard ≤ MOST_TEXT_BYTES },
 }
 
 impl BlockReader {
@@ -57,7 +56,7 @@ impl BlockReader {
         ensures grows { Grows self.old self.new piece.now result }
         ensures steps { (heard : List ℕ) → Steps self.old block.old self.new block.new heard piece.now result }
     {
-        let room = MOST - self.heard;
+        let room = MOST_TEXT_BYTES as usize - self.heard;
         let front = &piece[..piece.len().min(room)];
         match find_end(&mut self.framer, front) {
             Some(used) => {

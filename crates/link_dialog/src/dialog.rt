@@ -7,8 +7,9 @@ use crate::hearing::{hear_group_reply, hear_reply};
 use crate::long_reply::hear_long_reply;
 use crate::sending::send_whole;
 use crate::{Answer, Awaited, BlockAnswer, GroupAnswer};
+use io_traits::Links;
+use lists::Bytes;
 use nntp_lines::{Command, Login, Why, write_command};
-use ub_base::{Bytes, Links};
 
 /// A dialog on one link that is open and logged in: messages, each said once the one before has its reply. Its calls are
 /// made in turn, `say` and then `hear`, and end where one of them tells that the link is over.
@@ -36,12 +37,12 @@ pub enum NotOpen {
 }
 
 impl Dialog {
-    ghost use Rattle.ub_base.specs.declared.links.LinkEvent.{LinkEvent};
+    ghost use Rattle.io_traits.specs.declared.links.LinkEvent.{LinkEvent};
     ghost use Rattle.link_dialog.specs.Replies.{Reply};
     ghost use Rattle.link_dialog.specs.Dialog.{Message, message_of};
     ghost use Rattle.link_dialog.specs.TalkBlock.{IsBlockHeard, IsGroupHeard};
     ghost use Rattle.link_dialog.specs.Heard.{GroupKeepsLive};
-    ghost use Rattle.link_dialog.specs.Talk.{Start, Stands, Rests, Awaits, Talked, IsOpen, IsNotOpen, IsSaid, IsHeard, IsAsked, IsLoggedIn, IsQuit, HasNoBlock, KeepsLive, RoseAtOpening, link_of_dialog, patience_of};
+    ghost use Rattle.link_dialog.specs.Talk.{Start, Stands, Rests, Awaits, Talked, IsOpen, IsNotOpen, IsSaid, IsHeard, IsAsked, IsLoggedIn, IsQuit, HasNoBlock, KeepsLive, OnNoLink, OpeningFailed, link_of_dialog, patience_of};
 
     /// Opens a link, hears its greeting and logs in, where a login is given (RFC 3977, 5.1, and RFC 4643, 2.3). The password is
     /// sent only where it is asked for. The link is over after `patience` quiet receives without anything else between.
@@ -57,7 +58,7 @@ impl Dialog {
         // The link is open and logged in, or it is over, or there is none, for which the opening failed.
         ensures opened { IfOk result (λ dialog. IsOpen (record { before = L.trace links.old; address = address.now; login = option_copied login.entry }) (L.trace links.new) (L.live links.new) patience dialog) }
         ensures over { IfErr result (λ why. IsNotOpen (record { before = L.trace links.old; address = address.now; login = option_copied login.entry }) (L.trace links.new) patience why) }
-        ensures cause { IfErr result (RoseAtOpening (L.faults links.old) (L.faults links.new) (L.blame links.old) (L.blame links.new) address.now) }
+        ensures cause { IfErr result (λ why. OnNoLink why (OpeningFailed (L.faults links.old) (L.faults links.new) (L.blame links.old) (L.blame links.new) address.now)) }
     {
         let dialog = match greet(links, address, patience) {
             Ok(dialog) => dialog,

@@ -1,5 +1,6 @@
 // One reply heard, by as many receives as it takes.
 ghost use Rattle.std.specs.Prelude.{◌≡◌, ◌≤◌, ◌<◌, [], ◌∷◌, Some, None, true, slice_get, length, take, OnOk, IfOk, MatchResult};
+ghost use Rattle.io_traits.specs.Links.{tell, heard_events, live_after_receive, GotFits, GotHasCause};
 ghost use Rattle.link_dialog.specs.Reader.{StandsFor};
 ghost use Rattle.link_dialog.specs.Hearing.{HeardTo, LineHeard};
 ghost use Rattle.link_dialog.specs.Talk.{KeepsLive, HasNoBlock};
@@ -7,8 +8,8 @@ ghost use Rattle.link_dialog.specs.Heard.{IsAnswered, IsGroupAnswered, GroupKeep
 
 use crate::reader::{Reader, Step};
 use crate::{Answer, Awaited, GroupAnswer};
+use io_traits::{Got, Links};
 use nntp_lines::{Why, read_group};
-use ub_base::{Got, Links};
 
 // Where a status line ended: its code, how many bytes of the last receive it used, and how many that receive got.
 #[derive(Clone, Copy)]
@@ -16,6 +17,19 @@ pub(crate) struct LineEnd {
     pub(crate) code: u16,
     pub(crate) used: usize,
     pub(crate) len: usize,
+}
+
+// Receives on the one link that is heard. The links are asked for its turn first, so that those that wait for a link to be ready do.
+pub(crate) fn receive<L: Links>(links: &mut L, link: u32, buf: &mut [u8]) -> Got
+    requires live { slice_get (L.live links.old) link ≡ Some true }
+    requires room { 0 < length buf.old }
+    ensures cause { GotHasCause (L.faults links.old) (L.faults links.new) result }
+    ensures count { GotFits (length buf.old) result }
+    ensures live { L.live links.new ≡ live_after_receive (L.live links.old) link result }
+    ensures trace { L.trace links.new ≡ tell (L.trace links.old) (heard_events link buf.new result) }
+{
+    let _place = links.first_ready(&[link]);
+    links.receive(link, buf)
 }
 
 // Receives until the status line of a reply of this kind has ended, or the link is over.
@@ -42,7 +56,7 @@ pub(crate) fn hear_line<L: Links>(
 {
     let mut quiet = 0;
     loop {
-        match links.receive(link, buf) {
+        match receive(links, link, buf) {
             Got::Bytes(len) => {
                 quiet = 0;
                 let fed = reader.feed(kind, &buf[..len]);

@@ -19,3 +19,5 @@ pub use dialog::{Cut, Dialog, NotOpen};
 pub use laws::{
     greatest_number_of_replies, no_reply_begins_another, one_list_of_replies, reading_goes_on,
 };
+pub use reader::{Fed, Reader, Step};
+pub use sending::send_whole;

@@ -1,16 +1,17 @@
 // A reply with a block heard, by as many receives as it takes.
 ghost use Rattle.std.specs.Prelude.{◌≡◌, ◌≤◌, ◌<◌, ◌∷◌, [], ℕ, Option, Some, None, true, slice_get, length, List};
-ghost use Rattle.ub_base.specs.declared.links.LinkEvent.{LinkEvent};
+ghost use Rattle.io_traits.specs.declared.links.LinkEvent.{LinkEvent};
 ghost use Rattle.link_dialog.specs.Replies.{has_block, is_meant};
 ghost use Rattle.link_dialog.specs.Talk.{KeepsLive};
 ghost use Rattle.link_dialog.specs.BlockHearing.{BlockSoFar, IsBlockAnswered};
 
 use crate::block::{BlockReader, BlockStep};
-use crate::hearing::hear_line;
+use crate::hearing::{hear_line, receive};
 use crate::reader::Reader;
 use crate::{Answer, Awaited, BlockAnswer};
+use io_traits::{Got, Links};
+use lists::Bytes;
 use nntp_lines::Why;
-use ub_base::{Bytes, Got, Links};
 
 // Receives until a reply of this kind was heard whole, or the link is over. The bytes of its block, if it has one, are all
 // that `block` holds then, or nothing where there was no room for them.
@@ -105,7 +106,7 @@ fn hear_block<L: Links>(
 {
     let mut quiet = 0;
     loop {
-        match links.receive(link, buf) {
+        match receive(links, link, buf) {
             Got::Bytes(len) => {
                 quiet = 0;
                 match reader.step(&buf[..len], block) {

@@ -8,7 +8,7 @@ use nntp_lines::{Why, read_group, read_status};
 
 /// What a byte did.
 #[derive(Clone, Copy, Debug)]
-pub(crate) enum Step {
+pub enum Step {
     /// The status line goes on.
     More,
     /// The status line ended with this byte and has this code, which is meant.
@@ -19,7 +19,7 @@ pub(crate) enum Step {
 
 /// What was heard of a status line. Once it has ended, the line without its CRLF.
 #[derive(Drop)]
-pub(crate) struct Reader {
+pub struct Reader {
     line: [u8; 512],
     len: usize,
     ghost in_range: { len < 512 },
@@ -29,7 +29,7 @@ impl Reader {
     ghost use Rattle.link_dialog.specs.Reader.{StandsFor, Says, GrowsAtMore, heard_len};
 
     /// Stands before a status line.
-    pub(crate) fn new() -> Self
+    pub fn new() -> Self
         ensures { StandsFor result [] }
     {
         Reader {
@@ -39,7 +39,7 @@ impl Reader {
     }
 
     /// Takes the next byte of a status line where a reply of this kind is awaited.
-    pub(crate) fn step(&mut self, kind: Awaited, byte: u8) -> Step
+    pub fn step(&mut self, kind: Awaited, byte: u8) -> Step
         ensures grows { GrowsAtMore (heard_len self.old) (heard_len self.new) result }
         ensures says { (rest : List ℕ) → StandsFor self.old rest → Says kind (rest ++ byte ∷ []) result self.new }
     {
@@ -63,14 +63,14 @@ impl Reader {
     ghost use Rattle.link_dialog.specs.Reader.{held};
 
     /// The bytes of the line so far, or of all of it without its CRLF.
-    pub(crate) fn line(&self) -> &[u8]
+    pub fn line(&self) -> &[u8]
         ensures { result.now ≡ held self.now }
     {
         &self.line[..self.len]
     }
 
     /// How many bytes the line has with its CRLF.
-    pub(crate) fn len_with_end(&self) -> usize
+    pub fn len_with_end(&self) -> usize
         ensures { result ≡ length (held self.now) + 2 }
     {
         self.len + 2
@@ -79,24 +79,26 @@ impl Reader {
 
 /// What a piece did: how many of its bytes were used, and what the last of them did.
 #[derive(Clone, Copy)]
-pub(crate) struct Fed {
-    pub(crate) used: usize,
-    pub(crate) step: Step,
+pub struct Fed {
+    pub used: usize,
+    pub step: Step,
 }
 
 impl Reader {
     ghost use Rattle.link_dialog.specs.Reader.{StandsFor, heard_len, GrowsAtPiece};
-    ghost use Rattle.link_dialog.specs.Fed.{IsFed, IsRead};
+    ghost use Rattle.link_dialog.specs.Fed.{IsFed, IsRead, EndsAt};
     ghost use Rattle.link_dialog.specs.Replies.{Reply};
     ghost use Rattle.link_dialog.specs.Moments.{IsListening, state_of};
-    ghost use Rattle.ub_base.specs.declared.links.LinkEvent.{LinkEvent};
+    ghost use Rattle.io_traits.specs.declared.links.LinkEvent.{LinkEvent};
 
     /// Takes a piece of what is heard where a reply of this kind is awaited, up to the end of its status line.
-    pub(crate) fn feed(&mut self, kind: Awaited, piece: &[u8]) -> Fed
+    pub fn feed(&mut self, kind: Awaited, piece: &[u8]) -> Fed
         ensures used { result.used ≤ length piece.now }
+        ensures some { 0 < length piece.now → 0 < result.used }
         ensures small { heard_len self.new < 512 }
         ensures grows { GrowsAtPiece (heard_len self.old) (heard_len self.new) (length piece.now) result.step }
         ensures reads { (rest : List ℕ) → StandsFor self.old rest → IsRead kind rest piece.now result.used result.step self.new }
+        ensures ends { (rest : List ℕ) → StandsFor self.old rest → EndsAt kind rest piece.now result.used result.step }
         ensures fed { (patience link : ℕ) (asked : List ℕ → List Awaited) (moment : List LinkEvent) (replies : List Reply) (rest : List ℕ) →
             0 < patience → StandsFor self.old rest → IsListening patience asked moment (state_of replies (kind ∷ []) rest) →
             IsFed patience link asked moment replies kind rest piece.now result.used result.step }

@@ -1,124 +1,150 @@
-// What the tests hand in.
-ghost use Rattle.std.specs.Prelude.{None};
-
-use std::alloc::Global;
-use std::test::Fail;
-use ub_base::{Bytes, Failed, Input, Links, List, MemSink};
+// Runs of the top call over links, and what is asserted of them.
+use io_memory::{MemInput, ScriptLinks};
+use io_traits::{Input, LinkEvent, Links};
+use lists::Bytes;
+use news_spool::Spool;
+use row_fixtures::{Ran, are_events, sink_failing};
+use std::process::Abort;
 use usebin_cli::{NoStore, usebin};
 
-/// A list of these bytes.
-pub(crate) fn bytes_of(alloc: Global, text: &[u8]) -> Result<Bytes, Fail> {
-    let mut bytes = Bytes::new(alloc);
-    bytes.extend(text)?;
-    Ok(bytes)
-}
-
-/// A sink of which the writes of these numbers fail.
-pub(crate) fn sink_failing(alloc: Global, numbers: &[u64]) -> Result<MemSink, Fail> {
-    let mut failing = List::new(alloc);
-    for number in numbers {
-        failing.push(*number)?;
-    }
-    Ok(MemSink::new(alloc, failing)?)
-}
-
-/// The words of a command line.
-pub(crate) fn words_of(alloc: Global, words: &[&str]) -> Result<Vec<String>, Fail> {
-    let mut list = Vec::new(alloc);
-    for word in words {
-        list.push(String::from_str(alloc, word)?)?;
-    }
-    Ok(list)
-}
-
-/// What a run of the top call answered and wrote.
+/// A run, and the links that it was handed.
 #[derive(Drop)]
-pub(crate) struct Ran {
-    pub(crate) status: u8,
-    pub(crate) out: MemSink,
-    pub(crate) err: MemSink,
-}
-
-impl Ran {
-    /// Whether it answered this status and wrote these texts.
-    pub(crate) fn ended(&self, status: u8, out: &[u8], err: &[u8]) -> bool {
-        self.status == status && self.out.bytes() == out && self.err.bytes() == err
-    }
+pub(crate) struct Talk<L> {
+    pub(crate) ran: Ran,
+    pub(crate) links: L,
 }
 
 /// Runs the top call over links, at the moment 1,000,000,000. The writes of these numbers fail.
-pub(crate) fn run_linked<I: Input, L: Links>(
-    alloc: Global,
+pub(crate) fn run_linked<I: Input + Drop, L: Links, R: Abort + AllocGlobal>(
+    rt: &R,
     words: &[String],
-    input: &mut I,
-    links: &mut L,
+    mut input: I,
+    mut links: L,
     failing: &[u64],
     failing_errors: &[u64],
-) -> Result<Ran, Fail> {
-    let mut out = sink_failing(alloc, failing)?;
-    let mut err = sink_failing(alloc, failing_errors)?;
+) -> Talk<L> {
+    let alloc = rt.alloc();
+    let mut out = sink_failing(alloc, failing).expect(rt, "a sink");
+    let mut err = sink_failing(alloc, failing_errors).expect(rt, "a sink");
     let status = usebin(
         alloc,
         words,
-        input,
+        &mut input,
         &mut NoStore::new(),
-        links,
+        &mut links,
         &mut out,
         &mut err,
         1_000_000_000,
     );
-    Ok(Ran { status, out, err })
+    let ran = Ran { status, out, err };
+    Talk { ran, links }
 }
 
-/// A file that has fewer bytes than its opening says.
-#[derive(Drop)]
-pub(crate) struct ShrunkInput {
-    said: u64,
-    has: u64,
-    open_len: Option<u64>,
-    shorts: u64,
-    short_place: u64,
+/// Asserts that a run answered this status and wrote these texts.
+pub(crate) fn ended<L: Drop, R: Abort>(rt: &R, talk: Talk<L>, status: u8, out: &[u8], err: &str) {
+    let _links = ended_with(rt, talk, status, out, err);
 }
 
-impl ShrunkInput {
-    pub(crate) fn new(said: u64, has: u64) -> Self {
-        ShrunkInput {
-            said,
-            has,
-            open_len: None,
-            shorts: 0,
-            short_place: 0,
-        }
+/// The same, and gives its links back.
+pub(crate) fn ended_with<L: Drop, R: Abort>(
+    rt: &R,
+    talk: Talk<L>,
+    status: u8,
+    out: &[u8],
+    err: &str,
+) -> L {
+    let Talk { ran, links } = talk;
+    assert!(rt; ran.ended(status, out, err.as_bytes()), "{err}");
+    links
+}
+
+/// Asserts that a run was done, and gives its links back.
+pub(crate) fn done<L: Drop, R: Abort>(rt: &R, talk: Talk<L>) -> L {
+    let Talk { ran, links } = talk;
+    assert!(rt; ran.status == 0);
+    links
+}
+
+/// What tells its events.
+pub(crate) trait Told {
+    fn told(&self) -> &[LinkEvent];
+}
+
+impl Told for ScriptLinks {
+    fn told(&self) -> &[LinkEvent] {
+        self.events()
     }
 }
 
-impl Input for ShrunkInput {
-    ghost faults = { λ s. 0 };
-
-    ghost shorts = { λ s. s.shorts };
-
-    ghost short_place = { λ s. s.short_place };
-
-    ghost current = { λ s. s.open_len };
-
-    ghost content = { λ s. None };
-
-    ghost files = { λ s. None };
-
-    ghost blame = { λ s. None };
-
-    fn open(&mut self, _name: &str) -> Result<u64, Failed> {
-        self.open_len = Some(self.said);
-        Ok(self.said)
+impl Told for Spool {
+    fn told(&self) -> &[LinkEvent] {
+        self.events()
     }
+}
 
-    fn read_at(&mut self, pos: u64, buf: &mut [u8]) -> Result<usize, Failed> {
-        if pos < self.has {
-            buf[0] = b'x';
-            return Ok(1);
-        }
-        self.shorts = self.shorts.saturating_add(1);
-        self.short_place = pos;
-        Ok(0)
+/// Asserts that this is all that happened on links. Each event is the first letter of its kind and its bytes: opened, sent,
+/// heard, quiet and ended.
+pub(crate) fn happened<L: Told + Drop, R: Abort>(rt: &R, links: L, wanted: &[(u8, &[u8])]) {
+    assert!(rt; are_events(links.told(), wanted));
+}
+
+/// Asserts that this is all that happened behind so many events.
+pub(crate) fn happened_behind<L: Told + Drop, R: Abort>(
+    rt: &R,
+    before: usize,
+    links: L,
+    wanted: &[(u8, &[u8])],
+) {
+    let events = links.told();
+    let (_, behind) = events.split_at(before.min(events.len()));
+    assert!(rt; are_events(behind, wanted));
+}
+
+/// Asserts that a server in memory has so many articles.
+pub(crate) fn holds<R: Abort>(rt: &R, spool: Spool, articles: usize) {
+    let _spool = holding(rt, spool, articles);
+}
+
+/// The same, and gives the server back.
+pub(crate) fn holding<R: Abort>(rt: &R, spool: Spool, articles: usize) -> Spool {
+    assert!(rt; spool.articles() == articles);
+    spool
+}
+
+/// The words of a command line, and these behind them.
+pub(crate) fn words_of<R: Abort + AllocGlobal>(
+    rt: &R,
+    words: &[&str],
+    more: &[&str],
+) -> Vec<String> {
+    let mut list = row_fixtures::words_of(rt.alloc(), words).expect(rt, "words");
+    for word in more {
+        let word = String::from_str(rt.alloc(), word).expect(rt, "a word");
+        list.push(word).expect(rt, "words");
     }
+    list
+}
+
+/// A list of these bytes.
+pub(crate) fn bytes_of<R: Abort + AllocGlobal>(rt: &R, text: &[u8]) -> Bytes {
+    row_fixtures::bytes_of(rt.alloc(), text).expect(rt, "bytes")
+}
+
+/// An input of these files. The calls of these numbers fail.
+pub(crate) fn files_of<R: Abort + AllocGlobal>(
+    rt: &R,
+    files: &[(&str, &[u8])],
+    failing: &[u64],
+) -> MemInput {
+    row_fixtures::files_of(rt.alloc(), files, failing).expect(rt, "files")
+}
+
+/// Links of which the first gives these pieces, and then ends. No second one can be opened.
+pub(crate) fn links_of<R: Abort + AllocGlobal>(rt: &R, pieces: &[&[u8]]) -> ScriptLinks {
+    row_fixtures::links_of(rt.alloc(), pieces, &[]).expect(rt, "links")
+}
+
+/// Links of which the first gives these pieces, and then is quiet. No second one can be opened.
+pub(crate) fn quiet_links_of<R: Abort + AllocGlobal>(rt: &R, pieces: &[&[u8]]) -> ScriptLinks {
+    row_fixtures::quiet_links_of(rt.alloc(), pieces, &[]).expect(rt, "links")
 }

@@ -1,11 +1,13 @@
 // What the tests of `post` hand in, and what they await.
 ghost use Rattle.std.specs.Prelude.{◌≤◌, All, IfOk};
 
-use crate::fixtures::{Ran, bytes_of, run_linked, words_of};
+use crate::fixtures::{Talk, Told, files_of, happened, run_linked, words_of};
+use io_traits::{Input, Links};
+use lists::{Bytes, List, Memory};
 use news_spool::{Spool, SpoolPlan, SpoolServer};
+use row_fixtures::bytes_of;
 use std::alloc::Global;
-use std::test::Fail;
-use ub_base::{Bytes, Input, LinkEvent, Links, List, MemInput, ScriptLinks, Turn};
+use std::process::Abort;
 
 /// The address of the server.
 pub(crate) const SERVER: &str = "127.0.0.1:1190";
@@ -39,57 +41,12 @@ pub(crate) const D_INDEX: &[u8] = b"<?xml version=\"1.0\" encoding=\"UTF-8\"?>\n
 <segment bytes=\"188\" number=\"1\">tok.1of1@example.org</segment>\n\
 </segments>\n</file>\n</nzb>\n";
 
-/// An input of these files. The calls of these numbers fail.
-pub(crate) fn files_of(
-    alloc: Global,
-    files: &[(&str, &[u8])],
-    failing: &[u64],
-) -> Result<MemInput, Fail> {
-    let mut list = List::new(alloc);
-    for (name, content) in files {
-        list.push((bytes_of(alloc, name.as_bytes())?, bytes_of(alloc, content)?))?;
-    }
-    Ok(MemInput::new(list, numbers_of(alloc, failing)?))
-}
-
-/// A list of these numbers.
-pub(crate) fn numbers_of(alloc: Global, numbers: &[u64]) -> Result<List<u64>, Fail> {
-    let mut list = List::new(alloc);
-    for number in numbers {
-        list.push(*number)?;
-    }
-    Ok(list)
-}
-
-/// Links of which the first gives these pieces, and then ends. No second one can be opened.
-pub(crate) fn links_of(alloc: Global, pieces: &[&[u8]]) -> Result<ScriptLinks, Fail> {
-    let mut script = turns_of(alloc, pieces)?;
-    script.push(Turn::End)?;
-    links_after(alloc, script)
-}
-
-/// Links of which the first gives these pieces, and then is quiet. No second one can be opened.
-pub(crate) fn quiet_links_of(alloc: Global, pieces: &[&[u8]]) -> Result<ScriptLinks, Fail> {
-    links_after(alloc, turns_of(alloc, pieces)?)
-}
-
-fn turns_of(alloc: Global, pieces: &[&[u8]]) -> Result<List<Turn>, Fail> {
-    let mut script = List::new(alloc);
-    for piece in pieces {
-        script.push(Turn::Give(bytes_of(alloc, piece)?))?;
-    }
-    Ok(script)
-}
-
-// Links of which the first follows this script.
-fn links_after(alloc: Global, script: List<Turn>) -> Result<ScriptLinks, Fail> {
-    let mut scripts = List::new(alloc);
-    scripts.push(script)?;
-    Ok(ScriptLinks::new(alloc, scripts, List::new(alloc))?)
-}
-
 /// A spool of the one server, with this login or without.
-pub(crate) fn spool_of(alloc: Global, login: Option<(&[u8], &[u8])>) -> Result<Spool, Fail> {
+pub(crate) fn spool_of<R: Abort + AllocGlobal>(rt: &R, login: Option<(&[u8], &[u8])>) -> Spool {
+    spool_with(rt.alloc(), login).expect(rt, "a spool")
+}
+
+fn spool_with(alloc: Global, login: Option<(&[u8], &[u8])>) -> Result<Spool, Memory> {
     let login = match login {
         Some((user, pass)) => Some((bytes_of(alloc, user)?, bytes_of(alloc, pass)?)),
         None => None,
@@ -106,25 +63,22 @@ pub(crate) fn spool_of(alloc: Global, login: Option<(&[u8], &[u8])>) -> Result<S
         pieces: List::new(alloc),
         date: articles_date(alloc)?,
     };
-    match Spool::new(alloc, plan) {
-        Ok(spool) => Ok(spool),
-        Err(_) => Err("no memory".into()),
-    }
+    Spool::new(alloc, plan)
 }
 
 // The date that the server gives its articles.
-fn articles_date(alloc: Global) -> Result<Bytes, Fail>
+fn articles_date(alloc: Global) -> Result<Bytes, Memory>
     ensures { IfOk result (λ date. All (λ byte. 32 ≤ byte) date) }
 {
-    let mut date = Bytes::new(alloc);
-    match date.extend(b"Thu, 01 Jan 1970 02:00:10 +0200 (EET)") {
-        Ok(()) => Ok(date),
-        Err(_) => Err("no memory".into()),
+    let date: &[u8] = b"Thu, 01 Jan 1970 02:00:10 +0200 (EET)";
+    if date.iter().any(|byte| *byte < 32) {
+        return Err(Memory);
     }
+    bytes_of(alloc, date)
 }
 
 /// The words that post a file, and these behind them.
-pub(crate) fn post_words(alloc: Global, path: &str, more: &[&str]) -> Result<Vec<String>, Fail> {
+pub(crate) fn post_words<R: Abort + AllocGlobal>(rt: &R, path: &str, more: &[&str]) -> Vec<String> {
     let required = [
         "post",
         "--input",
@@ -140,78 +94,48 @@ pub(crate) fn post_words(alloc: Global, path: &str, more: &[&str]) -> Result<Vec
         "--domain",
         "example.org",
     ];
-    let mut words = words_of(alloc, &required)?;
-    for word in more {
-        words.push(String::from_str(alloc, word)?)?;
-    }
-    Ok(words)
+    words_of(rt, &required, more)
 }
 
 /// Posts a file of an input, with these words behind the required ones.
-pub(crate) fn post<I: Input, L: Links>(
-    alloc: Global,
+pub(crate) fn post_from<I: Input + Drop, L: Links, R: Abort + AllocGlobal>(
+    rt: &R,
     path: &str,
     more: &[&str],
-    input: &mut I,
-    links: &mut L,
-) -> Result<Ran, Fail> {
-    let words = post_words(alloc, path, more)?;
-    run_linked(alloc, &words, input, links, &[], &[])
+    input: I,
+    links: L,
+) -> Talk<L> {
+    let words = post_words(rt, path, more);
+    run_linked(rt, &words, input, links, &[], &[])
 }
 
 /// Posts one file, with these words behind the required ones.
-pub(crate) fn post_over(
-    alloc: Global,
+pub(crate) fn post<L: Links, R: Abort + AllocGlobal>(
+    rt: &R,
     file: (&str, &[u8]),
     more: &[&str],
-    links: &mut ScriptLinks,
-) -> Result<Ran, Fail> {
-    let mut input = files_of(alloc, &[file], &[])?;
-    post(alloc, file.0, more, &mut input, links)
+    links: L,
+) -> Talk<L> {
+    post_from(rt, file.0, more, files_of(rt, &[file], &[]), links)
 }
 
-/// Whether this is all that happened on links. Each event is the first letter of its kind and its bytes: opened, sent, heard,
-/// quiet and ended.
-pub(crate) fn happened(events: &[LinkEvent], wanted: &[(u8, &[u8])]) -> bool {
-    if events.len() != wanted.len() {
-        return false;
-    }
-    for i in 0..events.len() {
-        if told(&events[i]) != wanted[i] {
-            return false;
-        }
-    }
-    true
-}
-
-/// Whether one article was posted in a session with these replies, which are the greeting, that to `POST` and that to the
-/// article, and `QUIT` was said behind it.
-pub(crate) fn is_session(
-    events: &[LinkEvent],
-    replies: [&'static [u8]; 3],
-    block: &'static [u8],
-) -> bool {
+/// Asserts that one article was posted in a session with these replies, which are the greeting, that to `POST` and that to
+/// the article, and that `QUIT` was said behind it.
+pub(crate) fn session<'x, L: Told + Drop, R: Abort>(
+    rt: &R,
+    links: L,
+    replies: [&'x [u8]; 3],
+    block: &'x [u8],
+) {
     let [greeting, go_on, answer] = replies;
-    happened(
-        events,
-        &[
-            (b'O', b"127.0.0.1:1190"),
-            (b'H', greeting),
-            (b'S', b"POST\r\n"),
-            (b'H', go_on),
-            (b'S', block),
-            (b'H', answer),
-            (b'S', b"QUIT\r\n"),
-        ],
-    )
-}
-
-fn told(event: &LinkEvent) -> (u8, &[u8]) {
-    match event {
-        LinkEvent::Opened { address, .. } => (b'O', address.as_slice()),
-        LinkEvent::Sent { bytes, .. } => (b'S', bytes.as_slice()),
-        LinkEvent::Heard { bytes, .. } => (b'H', bytes.as_slice()),
-        LinkEvent::Quiet { .. } => (b'Q', b""),
-        LinkEvent::Ended { .. } => (b'E', b""),
-    }
+    let wanted: [(u8, &[u8]); 7] = [
+        (b'O', b"127.0.0.1:1190"),
+        (b'H', greeting),
+        (b'S', b"POST\r\n"),
+        (b'H', go_on),
+        (b'S', block),
+        (b'H', answer),
+        (b'S', b"QUIT\r\n"),
+    ];
+    happened(rt, links, &wanted);
 }

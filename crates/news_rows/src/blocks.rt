@@ -1,8 +1,8 @@
 // Multi-line blocks: made, split, and framed in pieces.
 use crate::fixtures::are_lines;
 use dot_blocks::{BlockError, Frame, Framer, split_block, stuff};
+use lists::Bytes;
 use std::test::Fail;
-use ub_base::Bytes;
 
 #[test]
 fn a_block_gives_its_lines_without_their_dots(rt: HostRuntime) -> Result<(), Fail> {

@@ -6,9 +6,9 @@ use article_head::{
     Head, is_comment, is_domain, is_file_name, is_from, is_newsgroups, is_token, part_id,
     write_head, write_subject,
 };
+use lists::Lines;
 use nntp_lines::MessageId;
 use std::test::Fail;
-use ub_base::Lines;
 
 // Writes a head whose fields keep to their rules.
 fn write_valid(head: &Head<'_>, lines: &mut Lines) -> Result<(), Fail> {

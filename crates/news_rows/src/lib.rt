@@ -1,8 +1,10 @@
-//! The worked cases of NNTP and of articles: blocks, commands and status lines, heads.
+//! The worked cases of NNTP and of articles: blocks, commands and status lines, heads, and dialogs over links in memory.
 #![tactic(auto)]
 
 #[cfg(test)]
 mod blocks;
+#[cfg(test)]
+mod dialog_fixtures;
 #[cfg(test)]
 mod fixtures;
 #[cfg(test)]
@@ -10,4 +12,12 @@ mod heads;
 #[cfg(test)]
 mod logins;
 #[cfg(test)]
+mod openings;
+#[cfg(test)]
+mod postings;
+#[cfg(test)]
+mod readings;
+#[cfg(test)]
 mod replies;
+#[cfg(test)]
+mod short_sends;

@@ -1,5 +1,5 @@
 // Where news servers are, and the logins there.
-use news_server::{LoginError, Logins, is_server, read_logins};
+use server_logins::{LoginError, Logins, is_server, read_logins};
 use std::alloc::Global;
 use std::test::Fail;
 

@@ -3,11 +3,11 @@ use Rattle.std.proofs.Common.{◌≡◌, ℕ, zero, suc, ◌≤◌, List, [], �
 use Rattle.std.proofs.lemmas.List.{append-nil}
 use Rattle.std.specs.Prelude.{OnErr, OnOk, IfOk, Option}
 use Rattle.std.specs.Option.{option_to_list}
-use Rattle.ub_base.specs.declared.links.Got.{Got}
-use Rattle.ub_base.specs.declared.links.Got.TheVariants as got
-use Rattle.ub_base.specs.declared.links.LinkEvent.{LinkEvent}
-use Rattle.ub_base.specs.declared.links.LinkEvent.TheVariants.{Opened, Sent, Heard, Quiet, Ended}
-use Rattle.ub_base.specs.Links.{GotFits, heard_events, opened_events, sent_events}
+use Rattle.io_traits.specs.declared.links.Got.{Got}
+use Rattle.io_traits.specs.declared.links.Got.TheVariants as got
+use Rattle.io_traits.specs.declared.links.LinkEvent.{LinkEvent}
+use Rattle.io_traits.specs.declared.links.LinkEvent.TheVariants.{Opened, Sent, Heard, Quiet, Ended}
+use Rattle.io_traits.specs.Links.{GotFits, heard_events, opened_events, sent_events}
 use Rattle.news_spool.specs.declared.article.Article.{Article}
 use Rattle.news_spool.specs.declared.link_state.LinkState.{LinkState}
 use Rattle.news_spool.specs.declared.plan.SpoolPlan.{SpoolPlan}

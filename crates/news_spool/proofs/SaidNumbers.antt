@@ -7,7 +7,7 @@ use Rattle.std.specs.Str.Parse.{AllDigits, digits_value}
 use Rattle.std.proofs.lemmas.Bool.{and_from}
 use Rattle.std.proofs.lemmas.Bool.Decides.{nat_tests}
 use Rattle.std.proofs.lemmas.Fmt.{decimal_is_IsNumeral}
-use Rattle.ub_base.specs.Numbers.{decimal_of, within}
+use Rattle.numbers.specs.Numbers.{decimal_of, within}
 use Rattle.nntp_lines.specs.GroupReply.{IsGroupLine, number_of}
 use Rattle.nntp_lines.specs.declared.group.GroupReply.{GroupReply}
 use Rattle.news_spool.specs.Groups.{group_line}

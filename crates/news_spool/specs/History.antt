@@ -3,8 +3,8 @@
 -- command or article.
 use Rattle.std.specs.Prelude.{◌≡◌, List, [], ◌∷◌, ◌++◌, length, slice_set}
 use Rattle.std.specs.Option.{option_to_list}
-use Rattle.ub_base.specs.declared.links.LinkEvent.{LinkEvent}
-use Rattle.ub_base.specs.declared.links.LinkEvent.TheVariants.{Opened, Sent, Heard, Quiet, Ended}
+use Rattle.io_traits.specs.declared.links.LinkEvent.{LinkEvent}
+use Rattle.io_traits.specs.declared.links.LinkEvent.TheVariants.{Opened, Sent, Heard, Quiet, Ended}
 use Rattle.news_spool.specs.declared.article.Article.{Article}
 use Rattle.news_spool.specs.declared.link_state.LinkState.{LinkState}
 use Rattle.news_spool.specs.declared.plan.SpoolPlan.{SpoolPlan}

@@ -3,8 +3,8 @@ use Rattle.std.specs.Prelude.{◌≡◌, ℕ, ◌==◌, nat_lt, ⊤, Bool, List,
 use Rattle.std.specs.Option.{option_and_then, option_map}
 use Rattle.std.specs.List.{find, list_all, position}
 use Rattle.std.specs.Str.{bytes_eq}
-use Rattle.ub_base.specs.declared.links.Got.{Got}
-use Rattle.ub_base.specs.declared.links.Got.TheVariants as got
+use Rattle.io_traits.specs.declared.links.Got.{Got}
+use Rattle.io_traits.specs.declared.links.Got.TheVariants as got
 use Rattle.news_spool.specs.declared.article.Article.{Article}
 use Rattle.news_spool.specs.declared.link_state.Due.{Due}
 use Rattle.news_spool.specs.declared.link_state.Due.TheVariants as due

@@ -3,9 +3,9 @@ ghost use Rattle.std.specs.Prelude.{◌≡◌, ◌+◌, fold, IfOk};
 ghost use Rattle.news_spool.specs.Octets.{with_octets};
 
 use crate::field::{has_from_and_subject, id_of, newsgroups_of};
+use lists::{Bytes, Lines, Memory};
 use nntp_lines::MessageId;
 use std::alloc::Global;
-use ub_base::{Bytes, Lines, Memory};
 
 /// An article that a spool holds.
 #[derive(Drop)]

@@ -4,7 +4,7 @@ ghost use Rattle.news_spool.specs.Answers.{answer_to, is_authinfo, login_reply, 
 
 use crate::range::NumberRange;
 use crate::reply::{Answer, Reply};
-use ub_base::Bytes;
+use lists::Bytes;
 
 // The greatest length of a command in bytes, without its CRLF (RFC 3977, 3.1).
 const MOST: usize = 510;

@@ -1,9 +1,10 @@
 // Counts that never fall, and what a failed opening is blamed on.
 ghost use Rattle.std.specs.Prelude.{◌≡◌, ◌≤◌, ◌⊎◌, Some, None};
-ghost use Rattle.ub_base.specs.Causes.{Rose, next_count};
+ghost use Rattle.io_traits.specs.Causes.{Rose, next_count};
 
+use io_traits::Blame;
+use lists::{Bytes, Memory};
 use std::alloc::Global;
-use ub_base::{Blame, Bytes, Memory};
 
 // One more, up to the greatest number.
 pub(crate) fn raised(count: u64) -> u64

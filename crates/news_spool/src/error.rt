@@ -1,7 +1,7 @@
 // Why an article isn't added.
 ghost use Rattle.std.specs.Prelude.{◌≡◌};
 
-use ub_base::Memory;
+use lists::Memory;
 
 /// Why an article isn't added to a spool.
 #[derive(Clone, Copy, Debug, PartialEq, Eq)]

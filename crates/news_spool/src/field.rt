@@ -6,9 +6,9 @@ ghost use Rattle.nntp_lines.specs.GroupName.{is_group_byte};
 ghost use Rattle.article_head.specs.Field.{is_word, names_of};
 ghost use Rattle.news_spool.specs.Fields.{are_newsgroups, field_of, has_from_and_subject, id_in, id_of, is_bracketed, newsgroups_of};
 
+use lists::{Bytes, Lines, Memory};
 use nntp_lines::{GroupName, MessageId};
 use std::alloc::Global;
-use ub_base::{Bytes, Lines, Memory};
 
 // What the first line says that begins with these bytes, a field's name, a colon and a space.
 pub(crate) fn field_of<'a>(name: &[u8], head: &'a Lines) -> Option<&'a [u8]>

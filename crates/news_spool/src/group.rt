@@ -4,8 +4,8 @@ ghost use Rattle.news_spool.specs.Groups.{IsBelow, group_count, group_line, with
 
 use crate::article::Article;
 use crate::owed::Owed;
+use lists::Memory;
 use nntp_lines::GroupReply;
-use ub_base::Memory;
 
 // How many articles are in the newsgroup of this name, with the least number and the greatest, if any is.
 pub(crate) fn count_group(name: &[u8], articles: &[Article]) -> Option<GroupReply>

@@ -1,4 +1,4 @@
-//! News servers in memory (RFC 3977, and RFC 4643 for the login): links on which they answer by the articles that they
+//! The servers in memory (RFC 3977, and RFC 4643 for the login): links on which they answer by the articles that they
 //! hold, for tests and for a rehearsal.
 #![tactic(auto)]
 

@@ -5,8 +5,8 @@ ghost use Rattle.news_spool.specs.Pieces.{left_of};
 use crate::article::Article;
 use crate::pieces::{bounded, is_spent, left_of};
 use crate::talk::{Phase, Talk};
+use lists::{Bytes, List, Memory};
 use std::alloc::Global;
-use ub_base::{Bytes, List, Memory};
 
 /// What is due to a receive.
 #[derive(Clone, Copy, Debug, PartialEq, Eq)]

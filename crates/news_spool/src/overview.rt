@@ -10,7 +10,7 @@ use crate::field::field_of;
 use crate::owed::Owed;
 use crate::range::NumberRange;
 use crate::reply::Reply;
-use ub_base::{Lines, Memory};
+use lists::{Lines, Memory};
 
 // Appends the overview of the articles of a newsgroup that are in a range, or says that there are none.
 pub(crate) fn append_overviews(

@@ -3,9 +3,10 @@ ghost use Rattle.std.specs.Prelude.{◌≡◌, ◌≤◌, [], ◌++◌, length, 
 ghost use Rattle.news_spool.specs.Answers.{reply_text};
 
 use crate::reply::Reply;
+use lists::{Bytes, Memory};
+use numbers::write_dec;
 use std::alloc::Global;
 use std::marker::Model;
-use ub_base::{Bytes, Memory, write_dec};
 
 /// The bytes that a link is owed. Contracts see the list of those that weren't given yet.
 #[derive(Drop)]

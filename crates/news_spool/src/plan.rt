@@ -1,5 +1,5 @@
 // What news servers in memory are to do.
-use ub_base::{Bytes, List};
+use lists::{Bytes, List};
 
 /// The servers of a spool, and how links to them go.
 #[derive(Drop)]

@@ -2,7 +2,7 @@
 ghost use Rattle.std.specs.Prelude.{◌≡◌, ◌==◌, ◌≤◌, length};
 ghost use Rattle.std.specs.List.{position_or_len};
 
-use ub_base::read_dec;
+use numbers::read_dec;
 
 // The greatest number of an article (RFC 3977, 9.8).
 const MOST: u64 = 9_999_999_999_999_999;

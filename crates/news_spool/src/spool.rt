@@ -1,10 +1,10 @@
 // News servers in memory.
 ghost use Rattle.std.specs.Prelude.{◌≡◌, ◌≢◌, ◌≤◌, ◌<◌, ℕ, [], ◌∷◌, ◌++◌, ◌⊎◌, ◌↔◌, length, take, slice_get, slice_set, Some, None, true, false, All, IfOk, IsErr, IsTrue, OnErr, OnOk, Err};
 ghost use Rattle.dot_blocks.specs.Blocks.{HoldsNoLineEnd};
-ghost use Rattle.ub_base.specs.Causes.{HasCause, BlamesNamed, Rose, blame_after, next_count};
-ghost use Rattle.ub_base.specs.LinkLog.{log_events, log_live};
-ghost use Rattle.ub_base.specs.Links.{tell, opened_events, sent_events, heard_events, live_after_open, live_after_send, live_after_receive, GotFits, GotHasCause, blame_after_receive};
-ghost use Rattle.ub_base.specs.Script.{OnFailed, UnlessFailed};
+ghost use Rattle.io_traits.specs.Causes.{HasCause, BlamesNamed, Rose, blame_after, next_count};
+ghost use Rattle.io_memory.specs.LinkLog.{log_events, log_live};
+ghost use Rattle.io_traits.specs.Links.{tell, opened_events, sent_events, heard_events, live_after_open, live_after_send, live_after_receive, GotFits, GotHasCause, blame_after_receive};
+ghost use Rattle.io_memory.specs.Script.{OnFailed, UnlessFailed};
 ghost use Rattle.news_spool.specs.Links.{GivesOwed, Opens, after_end, after_receive, after_sent, are_served, due_at, ends_after, entry_of, got_of, login_of, quiet_after, server_of, state_at};
 ghost use Rattle.news_spool.specs.LinkState.{CanGive, DueFits, given};
 ghost use Rattle.news_spool.specs.Pieces.{next_turn};
@@ -15,9 +15,11 @@ use crate::count::{opening, raised};
 use crate::link_state::{Due, LinkState};
 use crate::pieces::{next_turn, piece_at};
 use crate::plan::{SpoolLink, SpoolPlan, SpoolServer};
+use io_memory::LinkLog;
+use io_traits::{Blame, Failed, Got, LinkEvent, Links};
+use lists::{Bytes, Lines, List, Memory};
 use nntp_lines::{GroupName, MessageId};
 use std::alloc::Global;
-use ub_base::{Blame, Bytes, Failed, Got, Lines, LinkEvent, LinkLog, Links, List, Memory};
 
 /// News servers in memory that share their articles, and the links to them, with their trace. An address that isn't listed
 /// can't be opened, and a call for which there is no memory fails.
@@ -38,7 +40,7 @@ impl Spool {
     ghost use Rattle.news_spool.specs.Articles.{is_known, new_article};
     ghost use Rattle.news_spool.specs.History.{GoesOn, HasHistory, added};
     ghost use Rattle.news_spool.specs.Spool.{KeepsLinks, KeepsOutside, spool_articles, spool_blame, spool_events, spool_faults, spool_held, spool_links, spool_live, spool_plan, spool_turn};
-    ghost use Rattle.ub_base.specs.declared.links.LinkEvent.TheVariants.{Ended, Sent};
+    ghost use Rattle.io_traits.specs.declared.links.LinkEvent.TheVariants.{Ended, Sent};
     ghost use Rattle.news_spool.specs.declared.error.SpoolError.TheVariants as errors;
 
     /// Servers without an article, of which no link is open. No byte of the plan's date is below 32.
@@ -326,6 +328,8 @@ impl Links for Spool {
     ghost trace = { λ s. Some (spool_events s) };
 
     ghost blame = { λ s. Some (spool_blame s) };
+
+    ghost keeps_turns = { true };
 
     /// Opens a link to the first server with this address, which owes its greeting.
     fn open(&mut self, address: &[u8]) -> Result<u32, Failed>

@@ -9,9 +9,9 @@ use crate::overview::append_overviews;
 use crate::owed::Owed;
 use crate::range::NumberRange;
 use crate::reply::{Answer, Reply};
+use lists::{Bytes, Lines, List, Memory};
 use std::alloc::Global;
 use std::mem;
-use ub_base::{Bytes, Lines, List, Memory};
 
 /// What the next line is that a server hears.
 #[derive(Drop)]

@@ -6,8 +6,9 @@ use Rattle.std.specs.List.{list_all, starts_with}
 use Rattle.std.proofs.lemmas.Bool.{lt-ltb, ltb-true, eqb-true, and_parts}
 use Rattle.std.proofs.lemmas.Slice.Eq.{bytes_eq-Decides}
 use Rattle.std.proofs.Math.Seq.{take-append_seam}
+use Rattle.numbers.specs.Numbers.{Numbered, numbered_of}
 use Rattle.nntp_lines.specs.declared.group.GroupReply.{GroupReply}
-use Rattle.nntp_lines.specs.GroupReply.{IsGroupLine, Numbered, number_of, first_space, numbered, numbered_of, with_count, with_low, with_high, group_of}
+use Rattle.nntp_lines.specs.GroupReply.{IsGroupLine, number_of, first_space, numbered, with_count, with_low, with_high, group_of}
 
 none_number : {a : ℕ} → None ≡ Some a → ⊥
 none_number e = cc

@@ -3,7 +3,7 @@ use Rattle.std.proofs.Common.{◌≡◌, ◌≤◌, ◌<◌, ℕ, Bool, true, fa
 use Rattle.std.specs.Prelude.{IfOk, IfErr}
 use Rattle.std.proofs.lemmas.Bool.{le-leb, lt-leb}
 use Rattle.std.specs.Option.{ok_or}
-use Rattle.ub_base.specs.Numbers.{decimal_of}
+use Rattle.numbers.specs.Numbers.{decimal_of}
 use Rattle.nntp_lines.specs.declared.status.StatusFault.{StatusFault}
 use Rattle.nntp_lines.specs.declared.status.StatusFault.TheVariants.{NotACode, TooLong}
 use Rattle.nntp_lines.specs.StatusLine.{BeginsWithCode, IsStatusLine, HasStatusFault, is_end_or_space, code_of, status_of}

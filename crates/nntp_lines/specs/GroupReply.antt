@@ -1,7 +1,7 @@
 -- The reply to GROUP by which a newsgroup is chosen (RFC 3977, 6.1.1: `211 number low high group`).
 use Rattle.std.specs.Prelude.{◌≡◌, ℕ, ◌+◌, ◌==◌, nat_eq, nat_lt, if◌then◌else◌, List, ◌∷◌, ◌++◌, length, take, drop, codes, Option, Some, None}
 use Rattle.std.specs.List.{position_or_len, starts_with}
-use Rattle.ub_base.specs.Numbers.{decimal_of, within}
+use Rattle.numbers.specs.Numbers.{decimal_of, within, Numbered, numbered_of}
 use Rattle.nntp_lines.specs.declared.group.GroupReply.{GroupReply}
 
 -- a number of articles, or of an article; this program takes numbers of up to 16 digits, RFC 3977, 6, asks for ten
@@ -26,14 +26,6 @@ abbrev pub first_space : List ℕ → ℕ
 first_space text = position_or_len (λ byte. byte == 32) text
 
 -- a number in front of a space, and what stands behind that space
-pub record Numbered : Type 0 where
-  pub number : ℕ
-  pub behind : List ℕ
-
-abbrev pub numbered_of : Option ℕ → List ℕ → Option Numbered
-numbered_of None behind = None
-numbered_of (Some number) behind = Some (record { number = number; behind = behind })
-
 unfoldable pub numbered : List ℕ → Option Numbered
 numbered text =
     if nat_lt (first_space text) (length text)

@@ -2,7 +2,7 @@
 -- "initial-response-line").
 use Rattle.std.specs.Prelude.{◌≡◌, ℕ, ◌≤◌, ◌<◌, Bool, true, ◌==◌, nat_le, if◌then◌else◌, List, [], ◌∷◌, ◌++◌, length, Option, Some, None, Result, Ok, Err, IsTrue}
 use Rattle.std.specs.Option.{ok_or}
-use Rattle.ub_base.specs.Numbers.{decimal_of}
+use Rattle.numbers.specs.Numbers.{decimal_of}
 use Rattle.nntp_lines.specs.declared.status.StatusFault.{StatusFault}
 use Rattle.nntp_lines.specs.declared.status.StatusFault.TheVariants.{NotACode, TooLong}
 

@@ -3,8 +3,8 @@ ghost use Rattle.std.specs.Prelude.{◌≡◌, ◌≤◌, ◌+◌, ◌++◌, len
 ghost use Rattle.nntp_lines.specs.Command.{HasArticleNumbers, HasValidWords, IsCommandLine, command_line, command_text, over_line};
 ghost use Rattle.nntp_lines.specs.MessageId.{IsMessageId};
 
-use crate::put::{put, put_number};
 use crate::{GroupName, LoginWord, MessageId};
+use numbers::{put, put_number};
 
 /// A command that is sent to a news server (RFC 3977, and RFC 4643 for the login).
 #[derive(Clone, Copy, Debug)]

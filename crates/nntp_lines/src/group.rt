@@ -3,7 +3,7 @@ ghost use Rattle.std.specs.Prelude.{◌≡◌, ◌==◌, ◌≤◌, length, IfSo
 ghost use Rattle.std.specs.List.{position_or_len};
 ghost use Rattle.nntp_lines.specs.GroupReply.{IsGroupLine, group_of, numbered};
 
-use ub_base::read_dec;
+use numbers::read_dec;
 
 // The greatest number of an article, and of articles.
 const MOST: u64 = 9_999_999_999_999_999;

@@ -1,8 +1,9 @@
 // The name of a newsgroup.
-ghost use Rattle.std.specs.Prelude.{◌≡◌, ◌≤◌, ◌↔◌, length, take, IsTrue, IsSome, IfSome};
+ghost use Rattle.std.specs.Prelude.{◌≡◌, ◌↔◌, IsTrue, IsSome, IfSome};
 ghost use Rattle.std.specs.List.{list_all};
 ghost use Rattle.nntp_lines.specs.GroupName.{IsGroupName, is_group_byte};
 
+use lists::Short;
 use std::marker::Model;
 
 // The greatest length in bytes.
@@ -12,19 +13,18 @@ const MOST: usize = 200;
 /// of bytes.
 #[derive(Clone, Debug, Drop)]
 pub struct GroupName {
-    bytes: [u8; MOST],
-    len: usize,
+    text: Short<MOST>,
 }
 
 impl Model for GroupName {
-    ghost use Rattle.std.specs.Prelude.{ℕ, List, ◌≤◌, take};
+    ghost use Rattle.std.specs.Prelude.{ℕ, List};
     ghost use Rattle.nntp_lines.specs.GroupName.{IsGroupName};
 
     ghost Value = { List ℕ };
 
-    ghost view = { λ name. take name.len name.bytes };
+    ghost view = { λ name. name.text };
 
-    ghost invariant = { λ name. (name.len ≤ 200) × IsGroupName (take name.len name.bytes) };
+    ghost invariant = { λ name. IsGroupName name.text };
 }
 
 impl GroupName {
@@ -36,12 +36,8 @@ impl GroupName {
         if !is_group_name(name) {
             return None;
         }
-        let mut own = [0; MOST];
-        own[..name.len()].copy_from_slice(name);
-        Some(GroupName {
-            bytes: own,
-            len: name.len(),
-        })
+        let text = Short::new(name)?;
+        Some(GroupName { text })
     }
 
     /// All bytes, in order.
@@ -49,7 +45,7 @@ impl GroupName {
         ensures bytes { result.now ≡ self.now }
         ensures rule { IsGroupName self.now }
     {
-        &self.bytes[..self.len]
+        self.text.as_slice()
     }
 }
 

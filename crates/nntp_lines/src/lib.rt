@@ -9,7 +9,6 @@ mod laws;
 mod login;
 mod login_word;
 mod message_id;
-mod put;
 mod status;
 mod why;
 

@@ -1,9 +1,10 @@
 // The name of a user, or a password.
-ghost use Rattle.std.specs.Prelude.{◌≡◌, ◌≤◌, ◌↔◌, length, take, IsTrue, IsSome, IfSome};
+ghost use Rattle.std.specs.Prelude.{◌≡◌, ◌↔◌, IsTrue, IsSome, IfSome};
 ghost use Rattle.std.specs.Char.{is_ascii_graphic};
 ghost use Rattle.std.specs.List.{list_all};
 ghost use Rattle.nntp_lines.specs.LoginWord.{IsLoginWord};
 
+use lists::Short;
 use std::fmt;
 use std::marker::Model;
 
@@ -14,19 +15,18 @@ const MOST: usize = 200;
 /// space. Contracts see the list of bytes. Its `Debug` text doesn't show them, since they may be a password.
 #[derive(Clone, Drop)]
 pub struct LoginWord {
-    bytes: [u8; MOST],
-    len: usize,
+    text: Short<MOST>,
 }
 
 impl Model for LoginWord {
-    ghost use Rattle.std.specs.Prelude.{ℕ, List, ◌≤◌, take};
+    ghost use Rattle.std.specs.Prelude.{ℕ, List};
     ghost use Rattle.nntp_lines.specs.LoginWord.{IsLoginWord};
 
     ghost Value = { List ℕ };
 
-    ghost view = { λ word. take word.len word.bytes };
+    ghost view = { λ word. word.text };
 
-    ghost invariant = { λ word. (word.len ≤ 200) × IsLoginWord (take word.len word.bytes) };
+    ghost invariant = { λ word. IsLoginWord word.text };
 }
 
 // What it says isn't shown, since it may be a password.
@@ -45,12 +45,8 @@ impl LoginWord {
         if !is_login_word(bytes) {
             return None;
         }
-        let mut own = [0; MOST];
-        own[..bytes.len()].copy_from_slice(bytes);
-        Some(LoginWord {
-            bytes: own,
-            len: bytes.len(),
-        })
+        let text = Short::new(bytes)?;
+        Some(LoginWord { text })
     }
 
     /// All bytes, in order.
@@ -58,7 +54,7 @@ impl LoginWord {
         ensures bytes { result.now ≡ self.now }
         ensures rule { IsLoginWord self.now }
     {
-        &self.bytes[..self.len]
+        self.text.as_slice()
     }
 }
 

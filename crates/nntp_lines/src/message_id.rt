@@ -1,8 +1,9 @@
 // The message-id of an article.
-ghost use Rattle.std.specs.Prelude.{◌≡◌, ◌≤◌, ◌↔◌, length, take, IsTrue, IsSome, IfSome};
+ghost use Rattle.std.specs.Prelude.{◌≡◌, ◌↔◌, IsTrue, IsSome, IfSome};
 ghost use Rattle.std.specs.List.{list_all};
 ghost use Rattle.nntp_lines.specs.MessageId.{IsMessageId, is_id_byte};
 
+use lists::Short;
 use std::marker::Model;
 
 // The greatest length in bytes.
@@ -12,19 +13,18 @@ const MOST: usize = 248;
 /// characters, none of them a space or `>`. Contracts see the list of bytes.
 #[derive(Clone, Debug, Drop)]
 pub struct MessageId {
-    bytes: [u8; MOST],
-    len: usize,
+    text: Short<MOST>,
 }
 
 impl Model for MessageId {
-    ghost use Rattle.std.specs.Prelude.{ℕ, List, ◌≤◌, take};
+    ghost use Rattle.std.specs.Prelude.{ℕ, List};
     ghost use Rattle.nntp_lines.specs.MessageId.{IsMessageId};
 
     ghost Value = { List ℕ };
 
-    ghost view = { λ id. take id.len id.bytes };
+    ghost view = { λ id. id.text };
 
-    ghost invariant = { λ id. (id.len ≤ 248) × IsMessageId (take id.len id.bytes) };
+    ghost invariant = { λ id. IsMessageId id.text };
 }
 
 impl MessageId {
@@ -36,12 +36,8 @@ impl MessageId {
         if !is_message_id(inner) {
             return None;
         }
-        let mut own = [0; MOST];
-        own[..inner.len()].copy_from_slice(inner);
-        Some(MessageId {
-            bytes: own,
-            len: inner.len(),
-        })
+        let text = Short::new(inner)?;
+        Some(MessageId { text })
     }
 
     /// All bytes between the angle brackets, in order.
@@ -49,7 +45,7 @@ impl MessageId {
         ensures bytes { result.now ≡ self.now }
         ensures rule { IsMessageId self.now }
     {
-        &self.bytes[..self.len]
+        self.text.as_slice()
     }
 }
 

@@ -2,7 +2,7 @@
 ghost use Rattle.std.specs.Prelude.{◌≡◌, IfOk, IfErr};
 ghost use Rattle.nntp_lines.specs.StatusLine.{IsStatusLine, HasStatusFault, code_of, is_end_or_space, status_of};
 
-use ub_base::read_dec;
+use numbers::read_dec;
 
 // The greatest length in bytes, without CRLF.
 const MOST: usize = 510;

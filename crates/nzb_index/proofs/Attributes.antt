@@ -4,8 +4,7 @@ use Rattle.std.specs.Prelude.{codes, bytes_eq, is_some}
 use Rattle.std.specs.List.{list_any}
 use Rattle.std.proofs.lemmas.Bool.{cases_Bool, or_from}
 use Rattle.std.proofs.lemmas.Slice.Eq.{bytes_eq-Decides}
-use Rattle.ub_base.specs.Numbers.{decimal_of, within}
-use Rattle.nzb_index.specs.Markup.{or_zero}
+use Rattle.numbers.specs.Numbers.{decimal_of, within, or_zero}
 use Rattle.nzb_index.specs.Markup.{Attribute, AreAttributes, Checks, attribute, has_attribute, or_nothing, number_of}
 use Rattle.nzb_index.specs.Nzb.{segment_checks, file_checks, IsSegment, IsFile}
 use Rattle.nzb_index.specs.declared.index.Segment.{Segment}

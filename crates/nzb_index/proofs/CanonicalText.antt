@@ -7,7 +7,7 @@ use Rattle.std.proofs.lemmas.Bool.{eqb-false, ne_eqb, cases_Bool, cases_eq, and_
 use Rattle.std.proofs.lemmas.Bool.Decides.{nat_tests}
 use Rattle.std.proofs.lemmas.List.{append-nil}
 use Rattle.std.proofs.lemmas.List.Sums.{suffix_len_is}
-use Rattle.ub_base.specs.Numbers.{decimal_of, within}
+use Rattle.numbers.specs.Numbers.{decimal_of, within}
 use Rattle.nzb_index.specs.declared.index.Meta.{Meta}
 use Rattle.nzb_index.specs.declared.index.Segment.{Segment}
 use Rattle.nzb_index.specs.declared.index.FileEntry.{FileEntry}
@@ -22,6 +22,7 @@ use Rattle.nzb_index.proofs.Words.{up_to_found}
 use Rattle.nzb_index.proofs.IndexRead.{nzb_back}
 use Rattle.nzb_index.proofs.TextsFound.{encoded, shown, spaced-one, closes, Piece}
 use Rattle.nzb_index.proofs.ElementsFound.{TextPiece}
+use Rattle.limits.specs.declared.TheConstants.{MOST_TEXT_BYTES}
 
 -- ---- what is escaped
 
@@ -481,7 +482,7 @@ ends_first c w text e = let f = up_to_found c w text [] e in subst (λ (t : List
 is_xmlns : IsName (codes "xmlns")
 is_xmlns = (λ e. cc, refl)
 
-pub canonical_is_nzb : (i : Index) → IsValidIndex i → length (nzb_text i) ≤ 67108864 → IsNzb (nzb_text i) i
+pub canonical_is_nzb : (i : Index) → IsValidIndex i → length (nzb_text i) ≤ MOST_TEXT_BYTES → IsNzb (nzb_text i) i
 unfolding nzb_text element_text attribute_text written
 canonical_is_nzb i h short =
     let entries = entries_of i.metas i.files in
@@ -519,5 +520,5 @@ canonical_is_nzb i h short =
     joined d z y l x g m f e t same = rw (← same) (simp append_assoc)
 
 -- the canonical text reads back
-pub nzb_reads_back : (i : Index) → IsValidIndex i → length (nzb_text i) ≤ 67108864 → nzb_of (nzb_text i) ≡ Ok i
+pub nzb_reads_back : (i : Index) → IsValidIndex i → length (nzb_text i) ≤ MOST_TEXT_BYTES → nzb_of (nzb_text i) ≡ Ok i
 nzb_reads_back i h short = nzb_back (nzb_text i) i (canonical_is_nzb i h short)

@@ -20,21 +20,21 @@ pub record Texted (rest bytes behind : List ℕ) : Type 0 where
   pub rest_is : rest ≡ text ++ behind
   pub stands : StandsFor TextPiece text bytes
 
-with_text : (piece p rest bytes behind : List ℕ) → TextPiece piece p → Texted rest bytes behind → Texted (piece ++ rest) (p ++ bytes) behind
+pub with_text : (piece p rest bytes behind : List ℕ) → TextPiece piece p → Texted rest bytes behind → Texted (piece ++ rest) (p ++ bytes) behind
 with_text piece p rest bytes behind h t = record {
   text = piece ++ t.text;
   rest_is = ap (λ (x : List ℕ). piece ++ x) t.rest_is ∙ sym (append_assoc piece t.text behind);
   stands = ((piece, p) ∷ t.stands.0, (h, t.stands.1), ap (λ (x : List ℕ). piece ++ x) t.stands.2, ap (λ (x : List ℕ). p ++ x) t.stands.3);
 }
 
-reference_gives : (from rest : List ℕ) → Gives (reference_at from rest) (λ r. Reference rest r.0 r.1)
+pub reference_gives : (from rest : List ℕ) → Gives (reference_at from rest) (λ r. Reference rest r.0 r.1)
 reference_gives from rest = record { given = λ r e. reference_found from rest r.0 r.1 e }
 
-reference_text : (x : ℕ) (rest bytes left more behind : List ℕ) → x ≡ 38 → Reference rest bytes left → Texted left more behind → Texted (x ∷ rest) (bytes ++ more) behind
+pub reference_text : (x : ℕ) (rest bytes left more behind : List ℕ) → x ≡ 38 → Reference rest bytes left → Texted left more behind → Texted (x ∷ rest) (bytes ++ more) behind
 unfolding Reference
 reference_text x rest bytes left more behind e (t, f, is, q) v = rw (e, f) (with_text (38 ∷ t) bytes left more behind (inr (inl is)) v)
 
-comment_text : (x : ℕ) (rest inside front left more behind : List ℕ) → x ≡ 60 → rest ≡ codes "!--" ++ inside → inside ≡ front ++ left → IsComment (codes "<!--" ++ front) → Texted left more behind → Texted (x ∷ rest) more behind
+pub comment_text : (x : ℕ) (rest inside front left more behind : List ℕ) → x ≡ 60 → rest ≡ codes "!--" ++ inside → inside ≡ front ++ left → IsComment (codes "<!--" ++ front) → Texted left more behind → Texted (x ∷ rest) more behind
 comment_text x rest inside front left more behind e f g c v = rw (e, f, g) (with_text (codes "<!--" ++ front) [] left more behind (inr (inr (c, refl))) v)
 
 pub text_gives : (fuel : ℕ) (rest : List ℕ) → Gives (text_at fuel rest) (λ t. Texted rest t.0 t.1)

@@ -13,6 +13,7 @@ use Rattle.nzb_index.specs.MarkupReading.{Stop, refused, limit, Reading, Tag, st
 use Rattle.nzb_index.specs.NzbReading.{bad_id, meta_item, group_item, segment_item, file_part, entry_item}
 use Rattle.nzb_index.proofs.Keeps.{Keeps, goes_on, cut, limited, Never, behind, second, same, keeps_bind, keeps_then, keeps_if, stop_keeps, unexpected_keeps, test_keeps, word_keeps, all, part, white_keeps, name_keeps, Edge, nothing, opening, between_keeps}
 use Rattle.nzb_index.proofs.TextsKept.{value_keeps, text_keeps}
+use Rattle.limits.specs.declared.TheConstants.{MOST_FILES, MOST_SEGMENTS}
 
 -- ---- attributes and tags
 
@@ -152,7 +153,7 @@ room_keeps false l = limited l
 segment_keeps : (earlier : ℕ) (more : List ℕ) → KeepsItem more (segment_item earlier)
 segment_keeps earlier more ss name from rest =
     keeps_then (only (codes "segment") name from) _ _ _ (only_keeps (codes "segment") name from more) (λ ok.
-    keeps_then (cond (nat_lt (earlier + length ss) 262144) (Ok true) (Err (limit limits.Segments))) _ _ _ (room_keeps (nat_lt (earlier + length ss) 262144) limits.Segments) (λ room.
+    keeps_then (cond (nat_lt (earlier + length ss) MOST_SEGMENTS) (Ok true) (Err (limit limits.Segments))) _ _ _ (room_keeps (nat_lt (earlier + length ss) MOST_SEGMENTS) limits.Segments) (λ room.
     keeps_then (tag_at segment_checks rest) _ _ _ (tag_keeps segment_checks rest more) (λ tag.
     keeps_then _ _ _ _ (test_keeps (has_attribute (codes "number") tag.0.attributes) (has_attribute (codes "number") tag.0.attributes) from NoNumber (λ e. cc) refl) (λ has.
     keeps_then (leaf (codes "segment") (bad_id from) tag.0 tag.1) _ _ _ (leaf_keeps (codes "segment") (bad_id from) (bad_id (from ++ more)) tag.0 tag.1 more (λ t. bad_id_keeps from more t)) (λ id. goes_on _)))))
@@ -168,7 +169,7 @@ pub entry_keeps : (more : List ℕ) → KeepsItem more entry_item
 entry_keeps more i name from rest = keeps_if (bytes_eq name (codes "head")) _ _ _ _ _ refl
     (λ a. keeps_then (tag_at unchecked rest) _ _ _ (tag_keeps unchecked rest more) (λ tag. keeps_then (parent meta_item (codes "head") tag.0 i.metas tag.1) _ _ _ (parent_keeps meta_item (codes "head") more (meta_keeps more) tag.0 i.metas tag.1) (λ m. goes_on _)))
     (λ a. keeps_if (bytes_eq name (codes "file")) _ _ _ _ _ refl
-    (λ b. keeps_then (cond (nat_lt (length i.files) 9999) (Ok true) (Err (limit limits.Files))) _ _ _ (room_keeps (nat_lt (length i.files) 9999) limits.Files) (λ room.
+    (λ b. keeps_then (cond (nat_lt (length i.files) MOST_FILES) (Ok true) (Err (limit limits.Files))) _ _ _ (room_keeps (nat_lt (length i.files) MOST_FILES) limits.Files) (λ room.
     keeps_then (tag_at file_checks rest) _ _ _ (tag_keeps file_checks rest more) (λ tag.
     keeps_then (parent (file_part (segment_count i)) (codes "file") tag.0 _ tag.1) _ _ _ (parent_keeps (file_part (segment_count i)) (codes "file") more (part_keeps (segment_count i) more) tag.0 _ tag.1) (λ f. goes_on _))))
     (λ b. stop_keeps from WrongTag (λ e. cc)))

@@ -4,11 +4,11 @@ use Rattle.std.specs.Prelude.{codes, bytes_eq, is_some}
 use Rattle.std.specs.List.{list_all}
 use Rattle.std.proofs.lemmas.Bool.{cases_Bool, and_parts, and_from, leb-true, le-leb, lt-ltb}
 use Rattle.std.proofs.lemmas.Bool.Decides.{nat_tests}
-use Rattle.ub_base.specs.Numbers.{decimal_of, within}
+use Rattle.numbers.specs.Numbers.{decimal_of, within, or_zero}
 use Rattle.nntp_lines.specs.MessageId.{IsMessageId, is_id_byte as id_byte}
 use Rattle.nzb_index.specs.declared.index.Segment.{Segment}
 use Rattle.nzb_index.specs.declared.index.FileEntry.{FileEntry}
-use Rattle.nzb_index.specs.Markup.{Attribute, Checks, attribute, has_attribute, or_nothing, or_zero, number_of, is_id_byte, is_message_id}
+use Rattle.nzb_index.specs.Markup.{Attribute, Checks, attribute, has_attribute, or_nothing, number_of, is_id_byte, is_message_id}
 use Rattle.nzb_index.specs.MarkupReading.{Tag, leaf, tag_at, parent}
 use Rattle.nzb_index.specs.Nzb.{file_checks, segment_checks, IsListed}
 use Rattle.nzb_index.specs.NzbReading.{bad_id, segment_item, file_part}
@@ -18,6 +18,7 @@ use Rattle.nzb_index.proofs.Attributes.{value_fits}
 use Rattle.nzb_index.proofs.TagsFound.{tag_gives}
 use Rattle.nzb_index.proofs.ElementsFound.{leaf_gives, parent_gives}
 use Rattle.nzb_index.proofs.IndexFound.{FewInFile, good_id, listed, part_reads}
+use Rattle.limits.specs.declared.TheConstants.{MOST_SEGMENTS}
 
 -- ---- numbers
 
@@ -70,10 +71,10 @@ id_is_good from tag rest id behind e = let l = (leaf_gives (codes "segment") (ba
 
 -- ---- a segment
 
-pub segment_read : (earlier : ℕ) (ss new : List Segment) (name from rest : List ℕ) (tag : Tag) (mid id behind : List ℕ) (number bytes : ℕ) → bytes_eq name (codes "segment") ≡ true → earlier + length ss < 262144 → tag_at segment_checks rest ≡ Ok (tag, mid) →
+pub segment_read : (earlier : ℕ) (ss new : List Segment) (name from rest : List ℕ) (tag : Tag) (mid id behind : List ℕ) (number bytes : ℕ) → bytes_eq name (codes "segment") ≡ true → earlier + length ss < MOST_SEGMENTS → tag_at segment_checks rest ≡ Ok (tag, mid) →
     has_attribute (codes "number") tag.attributes ≡ true → leaf (codes "segment") (bad_id from) tag mid ≡ Ok (id, behind) → number ≡ number_of (codes "number") tag.attributes → bytes ≡ number_of (codes "bytes") tag.attributes →
     new ≡ ss ++ record { number = number; bytes = bytes; id = id } ∷ [] → segment_item earlier ss name from rest ≡ Ok (new, behind)
-segment_read earlier ss new name from rest tag mid id behind number bytes n room t has l a b e = rw (n, lt-ltb (earlier + length ss) 262144 room) (rw t (rw has (rw l (rw (← a, ← b, e) refl))))
+segment_read earlier ss new name from rest tag mid id behind number bytes n room t has l a b e = rw (n, lt-ltb (earlier + length ss) MOST_SEGMENTS room) (rw t (rw has (rw l (rw (← a, ← b, e) refl))))
 
 -- ---- a file
 
@@ -81,8 +82,8 @@ pub file_on : (earlier : ℕ) (rest : List ℕ) (tag : Tag) (mid : List ℕ) (st
     start.subject ≡ or_nothing (attribute (codes "subject") tag.attributes) → start.groups ≡ [] → start.segments ≡ [] → file_at earlier rest ≡ parent (file_part earlier) (codes "file") tag start mid
 file_on earlier rest tag mid start t p d s g e = rw t (rw (← p, ← d, ← s) (rw (← g, ← e) refl))
 
-pub file_few : (earlier : ℕ) (closed : Bool) (rest : List ℕ) (start file : FileEntry) (behind : List ℕ) → earlier ≤ 262144 → start.segments ≡ [] → parent (file_part earlier) (codes "file") (bare closed) start rest ≡ Ok (file, behind) → earlier + length file.segments ≤ 262144
+pub file_few : (earlier : ℕ) (closed : Bool) (rest : List ℕ) (start file : FileEntry) (behind : List ℕ) → earlier ≤ MOST_SEGMENTS → start.segments ≡ [] → parent (file_part earlier) (codes "file") (bare closed) start rest ≡ Ok (file, behind) → earlier + length file.segments ≤ MOST_SEGMENTS
 file_few earlier closed rest start file behind l e h = ((parent_gives (file_part earlier) IsListed listed (FewInFile earlier) (codes "file") (part_reads earlier) (bare closed) start rest few).given (file, behind) h).fits
   where
-    few : earlier + length start.segments ≤ 262144
+    few : earlier + length start.segments ≤ MOST_SEGMENTS
     few = omega (arith, l, ap length e)

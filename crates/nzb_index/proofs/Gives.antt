@@ -63,7 +63,7 @@ white_taken text = record { front = take (prefix_len is_white text) text; text_i
 pub some_taken : (k : ℕ) (text : List ℕ) → eqb k (length text) ≡ false → eqb k 0 ≡ false → k ≤ length text → take k text ≢ []
 some_taken k text h z l empty = let not_zero = eqb-false k 0 z in absurd (omega (arith, ap length empty, length-take k text, not_zero))
 
-between_piece : (front text : List ℕ) → IsWhite front ⊎ IsComment front → IsBetween text → IsBetween (front ++ text)
+pub between_piece : (front text : List ℕ) → IsWhite front ⊎ IsComment front → IsBetween text → IsBetween (front ++ text)
 between_piece front text h (pieces, e, all) = (front ∷ pieces, ap (λ (t : List ℕ). front ++ t) e, (h, all))
 
 -- White and comments are taken, and then another byte stands, or `otherwise` reads on behind `<!`.

@@ -22,6 +22,7 @@ use Rattle.nzb_index.proofs.IndexRead.{nzb_back}
 use Rattle.nzb_index.proofs.Places.{here, over, unexpected_fails}
 use Rattle.nzb_index.proofs.Betweens.{fails_as, fails_then}
 use Rattle.nzb_index.proofs.ValidIndex.{nzb_valid}
+use Rattle.limits.specs.declared.TheConstants.{MOST_TEXT_BYTES}
 
 -- ---- where the root begins
 
@@ -88,13 +89,13 @@ tail_read text rest tag mid index left at t p b e = tail_behind rest tag mid ind
 
 -- ---- the answer
 
-pub too_long : (text : List ℕ) → 67108864 < length text → IsRefused text (past limits.TextBytes)
+pub too_long : (text : List ℕ) → MOST_TEXT_BYTES < length text → IsRefused text (past limits.TextBytes)
 unfolding nzb_of
-too_long text l = rw (lt-ltb 67108864 (length text) l) refl
+too_long text l = rw (lt-ltb MOST_TEXT_BYTES (length text) l) refl
 
-short : (text : List ℕ) → length text ≤ 67108864 → nzb_of text ≡ with_place (length text) (index_at text)
+short : (text : List ℕ) → length text ≤ MOST_TEXT_BYTES → nzb_of text ≡ with_place (length text) (index_at text)
 unfolding nzb_of
-short text l = rw (le-ltb 67108864 (length text) l) refl
+short text l = rw (le-ltb MOST_TEXT_BYTES (length text) l) refl
 
 not_both : (text : List ℕ) (index : Index) (refusal : Refusal) → IsNzb text index → IsRefused text refusal → ⊥
 not_both text index refusal n r = let e : given index ≡ Err refusal = sym (nzb_back text index n) ∙ r in cc
@@ -108,7 +109,7 @@ one text d e a b = let f : refuses d ≡ refuses e = sym a ∙ b in cc
     refuses : Refusal → Result Index Refusal
     refuses x = Err x
 
-pub answers : (text : List ℕ) (r : Result Index NzbError) → length text ≤ 67108864 → ReadsIndex text r (index_at text) → Answers text r
+pub answers : (text : List ℕ) (r : Result Index NzbError) → length text ≤ MOST_TEXT_BYTES → ReadsIndex text r (index_at text) → Answers text r
 answers text r l h = go r h
   where
     read : nzb_of text ≡ with_place (length text) (index_at text)

@@ -18,6 +18,7 @@ use Rattle.nzb_index.specs.NzbReading.{Refusal, past, bad_id, meta_item, group_i
 use Rattle.nzb_index.proofs.Gives.{Gives, gives_ok, gives_err, gives_bind, gives_if, gives_unexpected, gives_as, gives_test, word_gives, between_or_gives, Between, between_gives, up_to_gives, name_gives}
 use Rattle.nzb_index.proofs.TagsFound.{tag_gives}
 use Rattle.nzb_index.proofs.ElementsFound.{leaf_gives, element, ReadsOne, parent_gives}
+use Rattle.limits.specs.declared.TheConstants.{MOST_FILES, MOST_SEGMENTS, MOST_TEXT_BYTES}
 
 -- ---- lists that grow at their end
 
@@ -36,7 +37,7 @@ named_from name wanted from rest same e = e ∙ ap (λ (n : List ℕ). codes "<"
 
 -- ---- metas, groups and segments
 
-meta_reads : ReadsOne meta_item IsMeta push Any
+pub meta_reads : ReadsOne meta_item IsMeta push Any
 meta_reads metas name from rest e fits =
     gives_test (bytes_eq name (codes "meta")) _ _ (λ same.
     gives_bind (tag_at unchecked rest) _ (tag_gives unchecked rest) (λ tag tagged.
@@ -51,7 +52,7 @@ meta_reads metas name from rest e fits =
       fits = tt;
     }))))
 
-group_reads : ReadsOne group_item IsGroup push Any
+pub group_reads : ReadsOne group_item IsGroup push Any
 group_reads gs name from rest e fits =
     gives_test (bytes_eq name (codes "group")) _ _ (λ same.
     gives_bind (tag_at unchecked rest) _ (tag_gives unchecked rest) (λ tag tagged.
@@ -60,7 +61,7 @@ group_reads gs name from rest e fits =
     gives_ok _ (record { one = el.one; value = t.0; from_is = el.from_is; is_one = (tag.0.attributes, l.inside, el.is_element, l.is_text); after_is = refl; fits = tt }))))
 
 abbrev pub FewSegments : ℕ → List Segment → Type 0
-FewSegments earlier ss = earlier + length ss ≤ 262144
+FewSegments earlier ss = earlier + length ss ≤ MOST_SEGMENTS
 
 pub good_id : (from id : List ℕ) → bad_id from id ≡ None → is_message_id id ≡ true
 good_id from id e = elim (cases_Bool (is_message_id id)) [ inl t ↦ t | inr f ↦ absurd (bad (rw f at e)) ]
@@ -68,10 +69,10 @@ good_id from id e = elim (cases_Bool (is_message_id id)) [ inl t ↦ t | inr f �
     bad : {s : Stop} → Some s ≡ None → ⊥
     bad {s} e = cc
 
-segment_reads : (earlier : ℕ) → ReadsOne (segment_item earlier) IsSegment push (FewSegments earlier)
+pub segment_reads : (earlier : ℕ) → ReadsOne (segment_item earlier) IsSegment push (FewSegments earlier)
 segment_reads earlier ss name from rest e fits =
     gives_test (bytes_eq name (codes "segment")) _ _ (λ same.
-    gives_test (nat_lt (earlier + length ss) 262144) _ _ (λ room.
+    gives_test (nat_lt (earlier + length ss) MOST_SEGMENTS) _ _ (λ room.
     gives_bind (tag_at segment_checks rest) _ (tag_gives segment_checks rest) (λ tag tagged.
     gives_test _ _ _ (λ has.
     gives_bind (leaf (codes "segment") (bad_id from) tag.0 tag.1) _ (leaf_gives (codes "segment") (bad_id from) tag.0 tag.1) (λ t l.
@@ -83,7 +84,7 @@ segment_reads earlier ss name from rest e fits =
       from_is = el.from_is;
       is_one = (tag.0.attributes, l.inside, el.is_element, has, refl, refl, l.is_text, good_id from t.0 l.unknown);
       after_is = refl;
-      fits = let below = ltb-true (earlier + length ss) 262144 room in omega (arith, length-append ss (s ∷ []), below);
+      fits = let below = ltb-true (earlier + length ss) MOST_SEGMENTS room in omega (arith, length-append ss (s ∷ []), below);
     }))))))
 
 -- ---- files
@@ -139,7 +140,7 @@ all_entered (head metas ∷ entries) i = all_entered entries (entered i (head me
 all_entered (file f ∷ entries) i = all_entered entries (with_file i f) ∙ ap (λ (fs : List FileEntry). record { metas = i.metas ++ flat_map metas_in entries; files = fs }) (append_assoc i.files (f ∷ []) (flat_map files_in entries))
 
 abbrev pub Few : Index → Type 0
-Few i = (length i.files ≤ 9999) × (segment_count i ≤ 262144)
+Few i = (length i.files ≤ MOST_FILES) × (segment_count i ≤ MOST_SEGMENTS)
 
 pub segments_with : (i : Index) (f : FileEntry) → segment_count (with_file i f) ≡ segment_count i + length f.segments
 segments_with i f = sum_by-append (λ (x : FileEntry). length x.segments) i.files (f ∷ []) ∙ ap (λ (n : ℕ). segment_count i + n) one
@@ -147,7 +148,7 @@ segments_with i f = sum_by-append (λ (x : FileEntry). length x.segments) i.file
     one : sum_by (λ (x : FileEntry). length x.segments) (f ∷ []) ≡ length f.segments
     one = omega arith
 
-entry_reads : ReadsOne entry_item IsEntry entered Few
+pub entry_reads : ReadsOne entry_item IsEntry entered Few
 entry_reads i name from rest e fits = gives_if (bytes_eq name (codes "head")) _ _
     (λ same. gives_bind (tag_at unchecked rest) _ (tag_gives unchecked rest) (λ tag tagged.
     gives_bind _ _ (parent_gives meta_item IsMeta push Any (codes "head") meta_reads tag.0 i.metas tag.1 tt) (λ m many.
@@ -161,7 +162,7 @@ entry_reads i name from rest e fits = gives_if (bytes_eq name (codes "head")) _ 
       fits = fits;
     }))))
     (λ other. gives_if (bytes_eq name (codes "file")) _ _
-    (λ same. gives_test (nat_lt (length i.files) 9999) _ _ (λ room.
+    (λ same. gives_test (nat_lt (length i.files) MOST_FILES) _ _ (λ room.
     gives_bind (tag_at file_checks rest) _ (tag_gives file_checks rest) (λ tag tagged.
     let start : FileEntry = record {
       poster = or_nothing (attribute (codes "poster") tag.0.attributes);
@@ -179,22 +180,22 @@ entry_reads i name from rest e fits = gives_if (bytes_eq name (codes "head")) _ 
       from_is = el.from_is;
       is_one = (tag.0.attributes, many.inside, many.values, el.is_element, many.are_elements, ap (λ (x : FileEntry). x.poster) made, ap (λ (x : FileEntry). x.subject) made, ap (λ (x : FileEntry). x.date) made, ap (λ (x : FileEntry). x.groups) made, ap (λ (x : FileEntry). x.segments) made);
       after_is = refl;
-      fits = (let below = ltb-true (length i.files) 9999 room in omega (arith, length-append i.files (f.0 ∷ []), below), let few = many.fits in omega (arith, segments_with i f.0, few));
+      fits = (let below = ltb-true (length i.files) MOST_FILES room in omega (arith, length-append i.files (f.0 ∷ []), below), let few = many.fits in omega (arith, segments_with i f.0, few));
     })))))
     (λ more. gives_err _))
 
 -- ---- the whole text
 
-mark_gives : (text : List ℕ) → Gives (behind_mark text) (λ rest. (mark : List ℕ) × (text ≡ mark ++ rest) × IsMark mark)
+pub mark_gives : (text : List ℕ) → Gives (behind_mark text) (λ rest. (mark : List ℕ) × (text ≡ mark ++ rest) × IsMark mark)
 mark_gives text = gives_if (starts_with nat_eq text (0xEF ∷ [])) _ _
     (λ e. gives_as _ (word_gives (0xEF ∷ 0xBB ∷ 0xBF ∷ []) text) (λ rest f. (0xEF ∷ 0xBB ∷ 0xBF ∷ [], f, inr refl)))
     (λ e. gives_ok _ ([], refl, inl refl))
 
-one_white_gives : (text : List ℕ) → Gives (one_white text) (λ rest. (w : ℕ) × (is_white w ≡ true) × (text ≡ w ∷ rest))
+pub one_white_gives : (text : List ℕ) → Gives (one_white text) (λ rest. (w : ℕ) × (is_white w ≡ true) × (text ≡ w ∷ rest))
 one_white_gives [] = gives_err _
 one_white_gives (x ∷ rest) = gives_if (is_white x) _ _ (λ e. gives_ok _ (x, e, refl)) (λ e. gives_unexpected (x ∷ rest))
 
-declaration_gives : (text : List ℕ) → Gives (behind_declaration text) (λ rest. (declaration : List ℕ) × (text ≡ declaration ++ rest) × IsDeclaration declaration)
+pub declaration_gives : (text : List ℕ) → Gives (behind_declaration text) (λ rest. (declaration : List ℕ) × (text ≡ declaration ++ rest) × IsDeclaration declaration)
 declaration_gives text = gives_if (starts_with nat_eq text (codes "<?")) _ _
     (λ e. gives_bind (word (codes "<?xml") text) _ (word_gives (codes "<?xml") text) (λ name opened.
     gives_bind (one_white name) _ (one_white_gives name) (λ inside w.
@@ -212,10 +213,10 @@ type_end_gives (x ∷ text) =
     gives_if (is_control x) _ _ (λ k. gives_unexpected (x ∷ text)) (λ k.
     gives_as _ (type_end_gives text) (λ rest more. (x ∷ more.0, ap (λ (t : List ℕ). x ∷ t) more.1, or_from (eqb x 62 || eqb x 91 || is_control x) _ (or_from (eqb x 62 || eqb x 91) (is_control x) (or_from (eqb x 62) (eqb x 91) e f) k) more.2)))))
 
-abbrev Typed : List ℕ → List ℕ → Type 0
+abbrev pub Typed : List ℕ → List ℕ → Type 0
 Typed more rest = (document_type : List ℕ) × (codes "<!" ++ more ≡ document_type ++ rest) × IsDocumentType document_type
 
-type_gives : (more : List ℕ) → Gives (behind_type more) (Typed more)
+pub type_gives : (more : List ℕ) → Gives (behind_type more) (Typed more)
 type_gives more =
     gives_bind (word (codes "DOCTYPE") more) _ (word_gives (codes "DOCTYPE") more) (λ name opened.
     gives_bind (one_white name) _ (one_white_gives name) (λ inside w.
@@ -226,14 +227,14 @@ type_gives more =
     joined t n i c b f r w e1 e2 e3 e4 = rw (e1, e2, e3, e4) (simp append_assoc)
 
 -- white, comments and a document type, or none
-record Typing (text rest : List ℕ) : Type 0 where
+pub record Typing (text rest : List ℕ) : Type 0 where
   pub between : List ℕ
   pub document_type : List ℕ
   pub text_is : text ≡ between ++ document_type ++ rest
   pub is_between : IsBetween between
   pub is_document_type : IsDocumentType document_type
 
-typing : (text rest : List ℕ) → Between Typed text rest → Typing text rest
+pub typing : (text rest : List ℕ) → Between Typed text rest → Typing text rest
 typing text rest b = go b.ending
   where
     go : (b.mid ≡ rest) ⊎ ((more : List ℕ) × (b.mid ≡ codes "<!" ++ more) × Typed more rest) → Typing text rest
@@ -309,7 +310,7 @@ index_gives text =
 -- a reading is a text of the grammar
 pub nzb_found : (text : List ℕ) (i : Index) → nzb_of text ≡ Ok i → IsNzb text i
 unfolding nzb_of
-nzb_found text i e = elim (cases_Bool (nat_lt 67108864 (length text))) [
+nzb_found text i e = elim (cases_Bool (nat_lt MOST_TEXT_BYTES (length text))) [
   | inl long ↦ absurd (let f : stopped ≡ Ok i = rw long at e in cc)
   | inr short ↦
       let w = (index_gives text).given i (placed (length text) (index_at text) (rw short at e)) in
@@ -327,7 +328,7 @@ nzb_found text i e = elim (cases_Bool (nat_lt 67108864 (length text))) [
         is_document_type = w.is_document_type;
         is_root = w.is_root;
         is_behind = w.is_behind;
-        short = ltb-false 67108864 (length text) short;
+        short = ltb-false MOST_TEXT_BYTES (length text) short;
         few_files = w.few.0;
         few_segments = w.few.1;
       }

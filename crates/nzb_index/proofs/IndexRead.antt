@@ -16,6 +16,7 @@ use Rattle.nzb_index.proofs.IndexFound.{push, Any, FewSegments, fold_push, liste
 use Rattle.nzb_index.proofs.WordsRead.{then, name_back, between_back, Stops, stops_back, up_to_back}
 use Rattle.nzb_index.proofs.TagsRead.{open_back}
 use Rattle.nzb_index.proofs.ElementsRead.{ReadsBack, leaf_back, parent_back, between_stops, tag_stops}
+use Rattle.limits.specs.declared.TheConstants.{MOST_FILES, MOST_SEGMENTS, MOST_TEXT_BYTES}
 
 -- ---- metas, groups and segments
 
@@ -56,7 +57,7 @@ segment_back : (earlier : ℕ) → ReadsBack (segment_item earlier) IsSegment pu
 segment_back earlier ss s one rest (attributes, inside, is, has, number, bytes, text, good) fits =
     let o = open_back segment_checks (codes "segment") one attributes inside rest is in
     let from : List ℕ = 60 ∷ (codes "segment" ++ o.left) in
-    let room : nat_lt (earlier + length ss) 262144 ≡ true = lt-ltb (earlier + length ss) 262144 (omega (arith, length-append ss (s ∷ []), fits)) in
+    let room : nat_lt (earlier + length ss) MOST_SEGMENTS ≡ true = lt-ltb (earlier + length ss) MOST_SEGMENTS (omega (arith, length-append ss (s ∷ []), fits)) in
     let known : bad_id from s.id ≡ None = rw good refl in
     record {
       name = codes "segment";
@@ -141,7 +142,7 @@ entry_back i (file f) one rest (attributes, inside, parts, is, are, poster, subj
       segments = [];
     } in
     let made : fold listed start parts ≡ f = all_listed parts start ∙ rw (← poster, ← subject, ← date, ← gs, ← ss) refl in
-    let room : nat_lt (length i.files) 9999 ≡ true = lt-ltb (length i.files) 9999 (omega (arith, length-append i.files (f ∷ []), fits.0)) in
+    let room : nat_lt (length i.files) MOST_FILES ≡ true = lt-ltb (length i.files) MOST_FILES (omega (arith, length-append i.files (f ∷ []), fits.0)) in
     let few : FewInFile (segment_count i) (fold listed start parts) = rw made (omega (arith, segments_with i f, fits.1)) in
     let read = parent_back (file_part (segment_count i)) IsListed listed (FewInFile (segment_count i)) (codes "file") (part_back (segment_count i)) (fewer_in_file (segment_count i)) is_file tag start o.mid inside rest parts o.content are few in
     record {
@@ -265,4 +266,4 @@ nzb_back text i n =
       is_behind = n.is_behind;
       few = (n.few_files, n.few_segments);
     }) in
-    rw (le-ltb 67108864 (length text) n.short) (rw read refl)
+    rw (le-ltb MOST_TEXT_BYTES (length text) n.short) (rw read refl)

@@ -13,6 +13,7 @@ use Rattle.nzb_index.specs.MarkupReading.{Stop, word, unexpected, name_at, only,
 use Rattle.nzb_index.specs.NzbReading.{entry_item, type_end, behind_type, behind_mark, behind_declaration, nothing_behind, index_at, Refusal, refused_at, past, with_place, nzb_of}
 use Rattle.nzb_index.proofs.Keeps.{Keeps, goes_on, ends, cut, stays, limited, Never, behind, same, keeps_bind, keeps_then, keeps_if, stop_keeps, unexpected_keeps, word_keeps, one_white_keeps, name_keeps, up_to_keeps, Edge, nothing, opening, between_keeps}
 use Rattle.nzb_index.proofs.ElementsKept.{tag_keeps, only_keeps, parent_keeps, entry_keeps}
+use Rattle.limits.specs.declared.TheConstants.{MOST_TEXT_BYTES}
 
 -- ---- the whole text
 
@@ -139,11 +140,11 @@ placed total more e r r' (stays left reason n) h k =
 placed total more e r r' (limited l) h k = h
 
 -- what is refused before the text's end stays refused, at the same place, whatever follows
-pub nzb_stays : (text more : List ℕ) (e : Refusal) → nzb_of text ≡ Err e → is_early e ≡ true → length (text ++ more) ≤ 67108864 → nzb_of (text ++ more) ≡ Err e
+pub nzb_stays : (text more : List ℕ) (e : Refusal) → nzb_of text ≡ Err e → is_early e ≡ true → length (text ++ more) ≤ MOST_TEXT_BYTES → nzb_of (text ++ more) ≡ Err e
 unfolding nzb_of
 nzb_stays text more e h k short =
-    let fits : nat_lt 67108864 (length text) ≡ false = le-ltb 67108864 (length text) (omega (arith, length-append text more, short)) in
-    let fits_both : nat_lt 67108864 (length (text ++ more)) ≡ false = le-ltb 67108864 (length (text ++ more)) short in
+    let fits : nat_lt MOST_TEXT_BYTES (length text) ≡ false = le-ltb MOST_TEXT_BYTES (length text) (omega (arith, length-append text more, short)) in
+    let fits_both : nat_lt MOST_TEXT_BYTES (length (text ++ more)) ≡ false = le-ltb MOST_TEXT_BYTES (length (text ++ more)) short in
     let known : with_place (length text) (index_at text) ≡ Err e = rw fits at h in
     rw fits_both (ap (λ (n : ℕ). with_place n (index_at (text ++ more))) (length-append text more) ∙ placed (length text) more e (index_at text) (index_at (text ++ more)) (index_keeps text more) known k)
 
@@ -159,7 +160,7 @@ placed_end total place more r r' (limited l) h = absurd cc
 -- a text that is cut short is refused at its end
 pub nzb_ended : (text : List ℕ) (place : ℕ) → nzb_of text ≡ Err (refused_at place Ended) → place ≡ length text
 unfolding nzb_of
-nzb_ended text place h = elim (cases_Bool (nat_lt 67108864 (length text))) [
+nzb_ended text place h = elim (cases_Bool (nat_lt MOST_TEXT_BYTES (length text))) [
   | inl long ↦ absurd (let f : refuses (past limits.TextBytes) ≡ refuses (refused_at place Ended) = rw long at h in cc)
   | inr short ↦ placed_end (length text) place [] (index_at text) (index_at (text ++ [])) (index_keeps text []) (rw short at h)
 ]
@@ -189,11 +190,11 @@ refused_front text j = is_refused (nzb_of (take j text))
 -- a refusal that stays whatever follows k bytes, and that no shorter front has
 pub record IsFirstFront (text : List ℕ) (e : Refusal) (k : ℕ) : Type 0 where
   pub is_front : k ≤ length text
-  pub known : (more : List ℕ) → length (take k text ++ more) ≤ 67108864 → nzb_of (take k text ++ more) ≡ Err e
+  pub known : (more : List ℕ) → length (take k text ++ more) ≤ MOST_TEXT_BYTES → nzb_of (take k text ++ more) ≡ Err e
   pub not_before : (j : ℕ) → j < k → (nzb_of (take j text) ≡ Err (refused_at j Ended)) ⊎ ((i : Index) × (nzb_of (take j text) ≡ Ok i))
 
 -- each refusal before the text's end is known first at one of its fronts
-pub nzb_first : (text : List ℕ) (e : Refusal) → length text ≤ 67108864 → nzb_of text ≡ Err e → is_early e ≡ true → (k : ℕ) × IsFirstFront text e k
+pub nzb_first : (text : List ℕ) (e : Refusal) → length text ≤ MOST_TEXT_BYTES → nzb_of text ≡ Err e → is_early e ≡ true → (k : ℕ) × IsFirstFront text e k
 nzb_first text e short h is_one = elim (first_below (refused_front text) (suc (length text))) [
   | inr none ↦ absurd (let f : is_refused (nzb_of text) ≡ false = rw whole at (none (length text) (omega arith)) in let g : is_refused (nzb_of text) ≡ true = rw h is_one in cc)
   | inl (k, l, refusal, none) ↦ (k, known_at k (omega arith) (nzb_of (take k text)) refl refusal none)
@@ -234,7 +235,7 @@ nzb_first text e short h is_one = elim (first_below (refused_front text) (suc (l
         }
 
 -- and at one alone
-pub one_front : (text : List ℕ) (e : Refusal) (j k : ℕ) → length text ≤ 67108864 → is_early e ≡ true → IsFirstFront text e j → IsFirstFront text e k → j ≡ k
+pub one_front : (text : List ℕ) (e : Refusal) (j k : ℕ) → length text ≤ MOST_TEXT_BYTES → is_early e ≡ true → IsFirstFront text e j → IsFirstFront text e k → j ≡ k
 one_front text e j k short is_one a b = elim (cases_order j k) [
   | inl same_front ↦ same_front
   | inr (inl less) ↦ absurd (not_yet j a (b.not_before j less))

@@ -9,6 +9,10 @@ pub mod IndexRead
 pub mod Keeps
 pub mod KnownFirst
 pub mod NzbLaws
+pub mod Stops
+pub mod ValueStops
+pub mod ReasonsFound
+pub mod ReasonsLaw
 pub mod Rows
 pub mod TagsFound
 pub mod TagsRead

@@ -1,5 +1,5 @@
 -- Worked rows of NZB texts, which compute.
-use Rattle.std.proofs.Common.{◌≡◌, ℕ, ◌+◌, ◌<◌, ◌^◌, lit<, map, List, [], ◌∷◌, ◌++◌, Ok, Err, refl}
+use Rattle.std.proofs.Common.{inl, false, ◌≡◌, ℕ, ◌+◌, ◌<◌, ◌^◌, lit<, map, List, [], ◌∷◌, ◌++◌, Ok, Err, refl}
 use Rattle.std.specs.Prelude.{codes, decimal}
 use Rattle.std.specs.Int.Digits.{digits_of}
 use Rattle.std.proofs.lemmas.Fmt.{decimal-digits_of}
@@ -7,6 +7,9 @@ use Rattle.nzb_index.specs.declared.error.NzbReason.TheVariants.{Ended, Unexpect
 use Rattle.nzb_index.specs.Canonical.{nzb_text, segment_text, file_text}
 use Rattle.nzb_index.specs.declared.index.Index.{Index}
 use Rattle.nzb_index.specs.NzbReading.{nzb_of, refused_at}
+use Rattle.nzb_index.specs.Markup.{unchecked, IsBetween}
+use Rattle.nzb_index.specs.Nzb.{file_checks}
+use Rattle.nzb_index.specs.Reasons.{HasReason, NameEnds, StartTag, end_in_content, in_one, parent_content, in_file, root_name, root_inside, in_nzb, subset as open_type}
 
 wrong_tag : nzb_of (codes "<nzb><file></nzb>") ≡ Err (refused_at 11 WrongTag)
 unfolding nzb_of
@@ -111,3 +114,41 @@ control_in_comment = refl
 control_in_reference : nzb_of (codes "<nzb a='&" ++ 1 ∷ codes "'>") ≡ Err (refused_at 8 BadReference)
 unfolding nzb_of
 control_in_reference = refl
+
+-- ---- the table of reasons, row by row
+
+no_text : IsBetween []
+no_text = ([], refl, tt)
+
+ended_name : NameEnds (codes "nzb>") (codes "nzb")
+ended_name = record { byte = 62; more = []; text_is = refl; is_name = (λ e. cc, refl); is_other = refl }
+
+root_tag : StartTag unchecked (codes "nzb") (codes "<nzb><file></nzb>") [] false (codes "<file></nzb>")
+root_tag = record { attribute_text = []; white = []; from_is = refl; are_attributes = refl; is_white = refl }
+
+file_tag : StartTag file_checks (codes "file") (codes "<file></nzb>") [] false (codes "</nzb>")
+file_tag = record { attribute_text = []; white = []; from_is = refl; are_attributes = refl; is_white = refl }
+
+-- the end tag of another element
+has_wrong_tag : HasReason (codes "<nzb><file></nzb>") 11 WrongTag
+has_wrong_tag = (
+  codes "</nzb>",
+  refl,
+  in_nzb [] [] [] [] (codes "<nzb><file></nzb>") (codes "</nzb>") WrongTag refl (inl refl) (inl refl) no_text (inl refl)
+      (root_inside (codes "</nzb>") WrongTag (parent_content [] (codes "<file></nzb>") (codes "</nzb>") WrongTag root_tag
+      (in_one [] (codes "<file></nzb>") (codes "</nzb>") WrongTag [] refl no_text (in_file (codes "</nzb>") WrongTag (parent_content [] (codes "</nzb>") (codes "</nzb>") WrongTag file_tag
+      (end_in_content [] (codes "</nzb>") (codes "nzb") [] refl no_text (codes "nzb>", refl, ended_name) (λ e. cc))))))),
+)
+
+-- another root
+has_other_root : HasReason (codes "<a>") 0 WrongTag
+has_other_root = (
+  codes "<a>",
+  refl,
+  in_nzb [] [] [] [] (codes "<a>") (codes "<a>") WrongTag refl (inl refl) (inl refl) no_text (inl refl)
+      (root_name (codes "a") (codes "a>", refl, record { byte = 62; more = []; text_is = refl; is_name = (λ e. cc, refl); is_other = refl }) (λ e. cc)),
+)
+
+-- declarations in the document type
+has_subset : HasReason (codes "<!DOCTYPE nzb [") 14 Subset
+has_subset = (codes "[", refl, open_type [] [] [] (codes "<!DOCTYPE nzb ") [] refl (inl refl) (inl refl) no_text (32, codes "nzb ", refl, refl, refl))

@@ -1,9 +1,14 @@
 -- Start tags over a slice.
-use Rattle.std.proofs.Common.{◌≡◌, ◌≢◌, ℕ, zero, suc, ◌+◌, ◌-◌, ◌<◌, ◌≤◌, true, false, cond, eqb, ◌||◌, List, [], ◌∷◌, ◌++◌, length, get_or, take, drop, Option, Some, None, Result, Ok, Err, refl, sym, ap, ◌∙◌, arith, inl, inr, ◌⊎◌}
+use Rattle.std.proofs.Common.{◌≡◌, ◌≢◌, ℕ, zero, suc, ◌+◌, ◌-◌, ◌<◌, ◌≤◌, Bool, true, false, cond, eqb, ◌||◌, List, [], ◌∷◌, ◌++◌, length, get_or, take, drop, Option, Some, None, Result, Ok, Err, refl, sym, ap, ◌∙◌, arith, inl, inr, ◌⊎◌}
 use Rattle.std.specs.Prelude.{codes, nat_eq, bytes_eq, is_some, slice_get}
 use Rattle.std.specs.Option.{option_map}
 use Rattle.std.specs.List.{starts_with}
-use Rattle.std.proofs.lemmas.Bool.{cases_Bool, eq-eqb, ne_eqb, or_from}
+use Rattle.std.specs.Borrow.{Bor}
+use Rattle.std.specs.BTreeSet.{BTreeSet, Updates}
+use Rattle.std.specs.Cmp.Lexicographic.{slice_cmp}
+use Rattle.std.specs.Ordering.{nat_cmp}
+use Rattle.std.proofs.lemmas.Map.Text.{is_eq-slice_cmp}
+use Rattle.std.proofs.lemmas.Bool.{cases_Bool, eqb-true, eqb-false, eq-eqb, ne_eqb, or_from}
 use Rattle.std.proofs.lemmas.List.{length-append, length-drop, drop-drop}
 use Rattle.nzb_index.specs.declared.error.NzbError.{NzbError}
 use Rattle.nzb_index.specs.declared.error.NzbError.TheVariants.{Refused}
@@ -12,7 +17,8 @@ use Rattle.nzb_index.specs.declared.error.NzbReason.TheVariants.{DoubleAttribute
 use Rattle.nzb_index.specs.Markup.{Attribute, Checks, attribute, has_attribute, or_nothing}
 use Rattle.nzb_index.specs.MarkupReading.{Stop, stop_at, unexpected, word, behind_white, name_at, quoted_at, value_at, attribute_at, tag_rest, tag_at, ◌>>=◌}
 use Rattle.nzb_index.specs.Readers.{Fails, ReadsValue, unexpected_at}
-use Rattle.nzb_index.specs.Tags.{attributes_of, place_of, ReadsAttribute, ReadsTag}
+use Rattle.nzb_index.specs.declared.tags.TheConstants.{FEW_NAMES}
+use Rattle.nzb_index.specs.Tags.{HasLater, attributes_of, place_of, ReadsAttribute, ReadsTag}
 use Rattle.nzb_index.proofs.Words.{starts_front, word_found}
 use Rattle.nzb_index.proofs.Places.{here, over, unexpected_fails}
 use Rattle.nzb_index.proofs.Betweens.{fails_as, fails_then}
@@ -52,15 +58,54 @@ place_further name line names i h e f = h ∙ ap (λ (l : List (List ℕ)). opti
     go None = refl
     go (Some k) = let s : i + suc k ≡ (i + 1) + k = omega arith in rw s refl
 
+none_left : (names : List (List ℕ)) (k : ℕ) → length names ≤ k → drop k names ≡ []
+none_left [] zero l = refl
+none_left [] (suc k) l = refl
+none_left (x ∷ names) zero l = absurd (omega (arith, l))
+none_left (x ∷ names) (suc k) l = none_left names k (omega (arith, l))
+
 pub place_nowhere : (name : List ℕ) (names : List (List ℕ)) (i : ℕ) → place_on name names i → length names ≤ i → place_of name names ≡ None
 unfolding place_on
-place_nowhere name names i h l = h ∙ ap (λ (t : List (List ℕ)). option_map (λ k. i + k) (place_of name t)) (none names i l)
+place_nowhere name names i h l = h ∙ ap (λ (t : List (List ℕ)). option_map (λ k. i + k) (place_of name t)) (none_left names i l)
+
+still_some : (f : ℕ → ℕ) (o : Option ℕ) → is_some (option_map f o) ≡ is_some o
+still_some f None = refl
+still_some f (Some k) = refl
+
+-- a name that is none of the first few
+pub place_later : (name : List ℕ) (names : List (List ℕ)) (few i : ℕ) → place_on name names i → i ≤ few → (i < few → length names ≤ i) → is_some (place_of name names) ≡ is_some (place_of name (drop few names))
+unfolding place_on
+place_later name names few i h l over = elim (cases_Bool (eqb i few)) [
+  | inl t ↦ rw (← eqb-true i few t) (ap (λ (o : Option ℕ). is_some o) h ∙ still_some (λ k. i + k) (place_of name (drop i names)))
+  | inr f ↦
+      let less : i < few = (let apart = eqb-false i few f in omega (arith, apart, l)) in
+      let all = over less in
+      ap (λ (o : Option ℕ). is_some o) (place_nowhere name names i h all) ∙ rw (none_left names few (omega (arith, all, l))) refl
+]
+
+-- one name more, where the first few are there
+one_more : (q name : List ℕ) (names : List (List ℕ)) → is_some (place_of q (names ++ name ∷ [])) ≡ cond (bytes_eq name q) true (is_some (place_of q names))
+one_more q name [] = elim (cases_Bool (bytes_eq name q)) [ inl t ↦ rw t refl | inr f ↦ rw f refl ]
+one_more q name (n ∷ names) = elim (cases_Bool (bytes_eq n q)) [
+  | inl t ↦ rw t (both (bytes_eq name q))
+  | inr f ↦ rw f (still_some (λ k. suc k) (place_of q (names ++ name ∷ [])) ∙ one_more q name names ∙ ap (λ (b : Bool). cond (bytes_eq name q) true b) (sym (still_some (λ k. suc k) (place_of q names))))
+]
   where
-    none : (t : List (List ℕ)) (k : ℕ) → length t ≤ k → drop k t ≡ []
-    none [] zero l = refl
-    none [] (suc k) l = refl
-    none (x ∷ t) zero l = absurd (omega (arith, l))
-    none (x ∷ t) (suc k) l = none t k (omega (arith, l))
+    both : (b : Bool) → true ≡ cond b true true
+    both true = refl
+    both false = refl
+
+behind_few : (few : ℕ) (names : List (List ℕ)) (name : List ℕ) → few ≤ length names → drop few (names ++ name ∷ []) ≡ drop few names ++ name ∷ []
+behind_few zero names name l = refl
+behind_few (suc few) [] name l = absurd (omega (arith, l))
+behind_few (suc few) (n ∷ names) name l = behind_few few names name (omega (arith, l))
+
+pub later_more : (later new : BTreeSet (Bor (List ℕ))) (names : List (List ℕ)) (name : Bor (List ℕ)) → FEW_NAMES ≤ length names → HasLater later names → Updates (λ x y. slice_cmp nat_cmp x.now y.now) later new name true → HasLater new (names ++ name.now ∷ [])
+later_more later new names name l h u q =
+    u.0 (record { ref_ptr = (0, 0); now = q }) ∙ rw (is_eq-slice_cmp name.now q, h q, behind_few FEW_NAMES names name.now l) (sym (one_more q name.now (drop FEW_NAMES names)))
+
+pub later_fewer : (later : BTreeSet (Bor (List ℕ))) (names : List (List ℕ)) (name : List ℕ) → length names < FEW_NAMES → HasLater later names → HasLater later (names ++ name ∷ [])
+later_fewer later names name l h q = h q ∙ rw (none_left names FEW_NAMES (omega (arith, l)), none_left (names ++ name ∷ []) FEW_NAMES (omega (arith, l, length-append names (name ∷ [])))) refl
 
 -- the attribute of a name is the one at its place
 attribute_at_place : (name : List ℕ) (names values : List (List ℕ)) → length names ≡ length values → attribute name (attributes_of names values) ≡ option_map (λ i. get_or values i []) (place_of name names)

@@ -202,7 +202,7 @@ shown_white y k = elim (or_cases (eqb y 9 || eqb y 10 || eqb y 13) (eqb y 32) k)
   ]
 ]
 
-no_line_end : (x : ℕ) (rest : List ℕ) → (eqb x 13 && starts_with nat_eq rest (codes "\n")) ≡ false → (m : List ℕ) → x ≡ 13 → rest ≡ 10 ∷ m → ⊥
+pub no_line_end : (x : ℕ) (rest : List ℕ) → (eqb x 13 && starts_with nat_eq rest (codes "\n")) ≡ false → (m : List ℕ) → x ≡ 13 → rest ≡ 10 ∷ m → ⊥
 no_line_end x rest h m e f = let t : (eqb x 13 && starts_with nat_eq rest (codes "\n")) ≡ true = rw (e, f) refl in absurd cc
 
 not_white : (x : ℕ) → is_loud x ≡ false → (shown x ≡ x) × (x ≢ 13)
@@ -244,7 +244,7 @@ inside-append p [] b h k = k
 inside-append p (x ∷ a) b h k = let r = or_parts (p x) (list_any p a) h in or_from (p x) _ r.0 (inside-append p a b r.1 k)
 
 -- a reference in front of a value
-value_reference : (quote : ℕ) → (quote ≡ 34) ⊎ (quote ≡ 39) → (rest bytes left more behind : List ℕ) → Reference rest bytes left → Value quote left more behind → Value quote (38 ∷ rest) (bytes ++ more) behind
+pub value_reference : (quote : ℕ) → (quote ≡ 34) ⊎ (quote ≡ 39) → (rest bytes left more behind : List ℕ) → Reference rest bytes left → Value quote left more behind → Value quote (38 ∷ rest) (bytes ++ more) behind
 unfolding Reference
 value_reference quote k rest bytes left more behind (t, e, is, q) v =
     let quiet : IsQuiet (38 ∷ t) = q in
@@ -256,7 +256,7 @@ value_reference quote k rest bytes left more behind (t, e, is, q) v =
     }
 
 -- one character in front of a value
-value_character : (quote x : ℕ) (rest more behind : List ℕ) → closes quote x ≡ false → is_control x ≡ false → x ≢ 38 → (quote ≡ 34) ⊎ (quote ≡ 39) → ((m : List ℕ) → x ≡ 13 → rest ≡ 10 ∷ m → ⊥) → Value quote rest more behind →
+pub value_character : (quote x : ℕ) (rest more behind : List ℕ) → closes quote x ≡ false → is_control x ≡ false → x ≢ 38 → (quote ≡ 34) ⊎ (quote ≡ 39) → ((m : List ℕ) → x ≡ 13 → rest ≡ 10 ∷ m → ⊥) → Value quote rest more behind →
     Value quote (x ∷ rest) ((cond (is_white x) 32 x ∷ []) ++ more) behind
 value_character quote x rest more behind c clean amp k apart v =
     record {
@@ -280,7 +280,7 @@ value_character quote x rest more behind c clean amp k apart v =
         grow w = let same : cond (is_white x) 32 x ≡ x = rw w refl in rw same (amp, eqb-false x 60 (or_parts (eqb x quote) (eqb x 60) c).1, clean)
 
 -- CR LF in front of a value is one line end
-value_line_end : (quote : ℕ) (rest more behind : List ℕ) → (quote ≡ 34) ⊎ (quote ≡ 39) → starts_with nat_eq rest (codes "\n") ≡ true → Value quote rest more behind → Value quote (13 ∷ rest) more behind
+pub value_line_end : (quote : ℕ) (rest more behind : List ℕ) → (quote ≡ 34) ⊎ (quote ≡ 39) → starts_with nat_eq rest (codes "\n") ≡ true → Value quote rest more behind → Value quote (13 ∷ rest) more behind
 value_line_end quote rest more behind k s v = go v.raw v.rest_is v.inside v.is_value
   where
     first : rest ≡ 10 ∷ drop 1 rest

@@ -6,7 +6,7 @@ use Rattle.std.proofs.lemmas.Bool.{cases_Bool, cases_lt, or_parts, or_from, and_
 use Rattle.std.proofs.lemmas.Bool.Decides.{nat_tests}
 use Rattle.std.proofs.lemmas.List.{get_or-reverse, length-reverse}
 use Rattle.std.proofs.lemmas.List.Sums.{prefix_len_stops, suffix_len-take_no}
-use Rattle.ub_base.specs.Numbers.{decimal_of, within}
+use Rattle.numbers.specs.Numbers.{decimal_of, within}
 use Rattle.nzb_index.specs.declared.index.Meta.{Meta}
 use Rattle.nzb_index.specs.declared.index.Segment.{Segment}
 use Rattle.nzb_index.specs.declared.index.FileEntry.{FileEntry}

@@ -7,7 +7,7 @@ use Rattle.std.specs.Str.Parse.{AllDigits, digits_value}
 use Rattle.std.proofs.lemmas.Bool.{and_from}
 use Rattle.std.proofs.lemmas.Bool.Decides.{nat_tests}
 use Rattle.std.proofs.lemmas.Fmt.{decimal_is_IsNumeral}
-use Rattle.ub_base.specs.Numbers.{decimal_of}
+use Rattle.numbers.specs.Numbers.{decimal_of}
 
 digit_is : (c : ℕ) → digit_value c < 10 → is_ascii_digit c ≡ true
 digit_is c h = grind (arith, nat_tests)

@@ -7,6 +7,7 @@ use Rattle.nzb_index.specs.declared.index.Meta.{Meta}
 use Rattle.nzb_index.specs.declared.index.Segment.{Segment}
 use Rattle.nzb_index.specs.declared.index.FileEntry.{FileEntry}
 use Rattle.nzb_index.specs.declared.index.Index.{Index}
+use Rattle.limits.specs.declared.TheConstants.{MOST_FILES, MOST_SEGMENTS}
 
 -- ---- the canonical text
 
@@ -59,5 +60,5 @@ pub record IsValidFile (f : FileEntry) : Type 0 where
 pub record IsValidIndex (i : Index) : Type 0 where
   pub metas : AllByRecursion (λ m. IsTextBytes m.kind × IsTextBytes m.text × (trimmed m.text ≡ m.text)) i.metas
   pub files : AllByRecursion IsValidFile i.files
-  pub few_files : length i.files ≤ 9999
-  pub few_segments : segment_count i ≤ 262144
+  pub few_files : length i.files ≤ MOST_FILES
+  pub few_segments : segment_count i ≤ MOST_SEGMENTS

@@ -8,6 +8,7 @@ use Rattle.nzb_index.specs.MarkupReading.{Stop, Reading, parent, tag_at, ◌>>=�
 use Rattle.nzb_index.specs.Nzb.{file_checks, segment_count}
 use Rattle.nzb_index.specs.NzbReading.{file_part}
 use Rattle.nzb_index.specs.Readers.{Fails}
+use Rattle.limits.specs.declared.TheConstants.{MOST_SEGMENTS}
 
 -- a file from behind its tag's name on
 abbrev pub file_at : ℕ → List ℕ → Reading FileEntry
@@ -22,10 +23,10 @@ file_at earlier rest =
     }) tag.1
 
 abbrev pub ReadsFile : List ℕ → ℕ → ℕ → Result (FileEntry × ℕ) NzbError → Result (FileEntry × List ℕ) Stop → Type 0
-ReadsFile text at earlier (Ok (file, end)) read = (at ≤ end) × (end ≤ length text) × (earlier + length file.segments ≤ 262144) × (read ≡ Ok (file, drop end text))
+ReadsFile text at earlier (Ok (file, end)) read = (at ≤ end) × (end ≤ length text) × (earlier + length file.segments ≤ MOST_SEGMENTS) × (read ≡ Ok (file, drop end text))
 ReadsFile text at earlier (Err e) read = Fails text e read
 
 -- the index behind an entry, with how many segments it has
 abbrev pub ReadsEntry : List ℕ → ℕ → Index → Result (ℕ × ℕ) NzbError → Result (Index × List ℕ) Stop → Type 0
-ReadsEntry text at index (Ok (end, count)) read = (at ≤ end) × (end ≤ length text) × (count ≡ segment_count index) × (count ≤ 262144) × (read ≡ Ok (index, drop end text))
+ReadsEntry text at index (Ok (end, count)) read = (at ≤ end) × (end ≤ length text) × (count ≡ segment_count index) × (count ≤ MOST_SEGMENTS) × (read ≡ Ok (index, drop end text))
 ReadsEntry text at index (Err e) read = Fails text e read

@@ -4,7 +4,7 @@ use Rattle.std.specs.List.{concat, flat_map, AllByRecursion, list_all, list_any,
 use Rattle.std.specs.Option.{option_map}
 use Rattle.std.specs.Char.{is_ascii_digit, is_ascii_hexdigit}
 use Rattle.std.specs.Str.Parse.{digits_value}
-use Rattle.ub_base.specs.Numbers.{decimal_of}
+use Rattle.numbers.specs.Numbers.{decimal_of, or_zero}
 
 -- ---- characters and small forms
 
@@ -121,10 +121,6 @@ has_attribute name attributes = is_some (find (λ a. bytes_eq a.name name) attri
 abbrev pub or_nothing : Option (List ℕ) → List ℕ
 or_nothing None = []
 or_nothing (Some text) = text
-
-abbrev pub or_zero : Option ℕ → ℕ
-or_zero None = 0
-or_zero (Some n) = n
 
 -- an attribute that is a number, or 0 where it is missing
 abbrev pub number_of : List ℕ → List Attribute → ℕ

@@ -1,12 +1,13 @@
 -- What an NZB text lists (the NZB 1.1 document type): a relation between a text and an index, by elements.
 use Rattle.std.specs.Prelude.{◌≡◌, ℕ, ◌≤◌, true, ◌||◌, ◌==◌, if◌then◌else◌, List, [], ◌∷◌, ◌++◌, length, ◌⊎◌, sum_by, is_some, codes, bytes_eq, IsTrue, IsFalse}
 use Rattle.std.specs.List.{flat_map, list_any}
-use Rattle.ub_base.specs.Numbers.{decimal_of, within}
+use Rattle.numbers.specs.Numbers.{decimal_of, within}
 use Rattle.nzb_index.specs.Markup.{is_white, is_control, is_message_id, EndsAtFirst, IsBetween, IsText, Attribute, attribute, has_attribute, or_nothing, number_of, Checks, unchecked, IsElement, AreElements}
 use Rattle.nzb_index.specs.declared.index.Meta.{Meta}
 use Rattle.nzb_index.specs.declared.index.Segment.{Segment}
 use Rattle.nzb_index.specs.declared.index.FileEntry.{FileEntry}
 use Rattle.nzb_index.specs.declared.index.Index.{Index}
+use Rattle.limits.specs.declared.TheConstants.{MOST_FILES, MOST_SEGMENTS, MOST_TEXT_BYTES}
 
 -- ---- the elements of an NZB
 
@@ -110,6 +111,6 @@ pub record IsNzb (text : List ℕ) (i : Index) : Type 0 where
   pub is_document_type : IsDocumentType document_type
   pub is_root : IsRoot root i
   pub is_behind : IsBetween behind
-  pub short : length text ≤ 67108864
-  pub few_files : length i.files ≤ 9999
-  pub few_segments : segment_count i ≤ 262144
+  pub short : length text ≤ MOST_TEXT_BYTES
+  pub few_files : length i.files ≤ MOST_FILES
+  pub few_segments : segment_count i ≤ MOST_SEGMENTS

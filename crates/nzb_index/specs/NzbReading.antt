@@ -12,6 +12,7 @@ use Rattle.nzb_index.specs.declared.index.Index.{Index}
 use Rattle.nzb_index.specs.declared.error.NzbReason.{NzbReason}
 use Rattle.nzb_index.specs.declared.error.NzbLimit.{NzbLimit}
 use Rattle.nzb_index.specs.declared.error.NzbLimit.TheVariants as limits
+use Rattle.limits.specs.declared.TheConstants.{MOST_FILES, MOST_SEGMENTS, MOST_TEXT_BYTES}
 
 abbrev pub meta_item : List Meta → List ℕ → List ℕ → List ℕ → Reading (List Meta)
 meta_item metas name from rest = do
@@ -34,7 +35,7 @@ bad_id from id = if is_message_id id then None else Some (refused (length from) 
 abbrev pub segment_item : ℕ → List Segment → List ℕ → List ℕ → List ℕ → Reading (List Segment)
 segment_item earlier segments name from rest = do
   ok ← only (codes "segment") name from
-  room ← if nat_lt (earlier + length segments) 262144 then Ok true else Err (limit limits.Segments)
+  room ← if nat_lt (earlier + length segments) MOST_SEGMENTS then Ok true else Err (limit limits.Segments)
   tag ← tag_at segment_checks rest
   has ← if has_attribute (codes "number") tag.0.attributes then Ok true else stop_at from NoNumber
   id ← leaf (codes "segment") (bad_id from) tag.0 tag.1
@@ -56,7 +57,7 @@ entry_item i name from rest =
     if bytes_eq name (codes "head")
     then (tag_at unchecked rest >>= λ tag. parent meta_item (codes "head") tag.0 i.metas tag.1 >>= λ m. Ok (record i { metas = m.0 }, m.1))
     else if bytes_eq name (codes "file")
-    then ((if nat_lt (length i.files) 9999 then Ok true else Err (limit limits.Files)) >>= λ room. tag_at file_checks rest >>= λ tag.
+    then ((if nat_lt (length i.files) MOST_FILES then Ok true else Err (limit limits.Files)) >>= λ room. tag_at file_checks rest >>= λ tag.
     parent (file_part (segment_count i)) (codes "file") tag.0 (record {
       poster = or_nothing (attribute (codes "poster") tag.0.attributes);
       date = number_of (codes "date") tag.0.attributes;
@@ -117,4 +118,4 @@ with_place total (Err (refused left reason)) = Err (refused_at (total - left) re
 with_place total (Err (limit l)) = Err (past l)
 
 unfoldable pub nzb_of : List ℕ → Result Index Refusal
-nzb_of text = if nat_lt 67108864 (length text) then Err (past limits.TextBytes) else with_place (length text) (index_at text)
+nzb_of text = if nat_lt MOST_TEXT_BYTES (length text) then Err (past limits.TextBytes) else with_place (length text) (index_at text)

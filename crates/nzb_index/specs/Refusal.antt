@@ -5,6 +5,7 @@ use Rattle.nzb_index.specs.declared.index.Index.{Index}
 use Rattle.nzb_index.specs.Nzb.{IsNzb}
 use Rattle.nzb_index.specs.Canonical.{IsValidIndex, nzb_text}
 use Rattle.nzb_index.specs.NzbReading.{Refusal, refused_at, nzb_of}
+use Rattle.limits.specs.declared.TheConstants.{MOST_TEXT_BYTES}
 
 -- what a text is refused for: a reason at a place, or a limit that it passes
 abbrev pub IsRefused : List ℕ → Refusal → Type 0
@@ -24,7 +25,7 @@ IsCutShort text = IsRefused text (refused_at (length text) Ended)
 pub record IsKnownFirst (text : List ℕ) (refusal : Refusal) (k : ℕ) : Type 0 where
   pub is_front : k ≤ length text
   pub dead : IsDead (take k text)
-  pub known : (more : List ℕ) → length (take k text ++ more) ≤ 67108864 → IsRefused (take k text ++ more) refusal
+  pub known : (more : List ℕ) → length (take k text ++ more) ≤ MOST_TEXT_BYTES → IsRefused (take k text ++ more) refusal
   pub not_before : (j : ℕ) → j < k → IsCutShort (take j text) ⊎ ((index : Index) × IsNzb (take j text) index)
 
 -- each text has exactly one of an index, a refusal and a limit
@@ -43,7 +44,7 @@ OneAnswer = (text : List ℕ) → ((index : Index) × HasOneIndex text index) �
 
 -- a refusal of a text within the limit of length is that by the text's end, or is known first at exactly one of its fronts
 abbrev pub KnownFirst : Type 0
-KnownFirst = (text : List ℕ) (refusal : Refusal) → length text ≤ 67108864 → IsRefused text refusal →
+KnownFirst = (text : List ℕ) (refusal : Refusal) → length text ≤ MOST_TEXT_BYTES → IsRefused text refusal →
     IsCutShort text ⊎ ((k : ℕ) × IsKnownFirst text refusal k × ((j : ℕ) → IsKnownFirst text refusal j → j ≡ k))
 
 -- an index that a text has is valid
@@ -52,4 +53,4 @@ IndexIsValid = (text : List ℕ) (index : Index) → IsNzb text index → IsVali
 
 -- the canonical text of a valid index, if it is no longer than a text may be, has that index
 abbrev pub NzbReadsBack : Type 0
-NzbReadsBack = (index : Index) → IsValidIndex index → length (nzb_text index) ≤ 67108864 → IsNzb (nzb_text index) index
+NzbReadsBack = (index : Index) → IsValidIndex index → length (nzb_text index) ≤ MOST_TEXT_BYTES → IsNzb (nzb_text index) index

@@ -1,8 +1,13 @@
 -- What the reading of start tags over a slice answers.
-use Rattle.std.specs.Prelude.{◌≡◌, ℕ, suc, ◌<◌, ◌≤◌, Bool, if◌then◌else◌, List, [], ◌∷◌, ◌++◌, length, drop, Option, Some, None, Result, Ok, Err, bytes_eq}
+use Rattle.std.specs.Prelude.{◌≡◌, ℕ, suc, ◌<◌, ◌≤◌, Bool, if◌then◌else◌, List, [], ◌∷◌, ◌++◌, length, drop, Option, Some, None, Result, Ok, Err, bytes_eq, is_some}
+use Rattle.std.specs.Borrow.{Bor}
+use Rattle.std.specs.BTreeSet.{BTreeSet, contains_by}
+use Rattle.std.specs.Cmp.Lexicographic.{slice_cmp}
+use Rattle.std.specs.Ordering.{nat_cmp}
 use Rattle.std.specs.Option.{option_map}
 use Rattle.nzb_index.specs.declared.error.NzbError.{NzbError}
 use Rattle.nzb_index.specs.declared.tags.Element.{Element}
+use Rattle.nzb_index.specs.declared.tags.TheConstants.{FEW_NAMES}
 use Rattle.nzb_index.specs.declared.tags.Element.TheVariants.{Plain, File, Segment}
 use Rattle.nzb_index.specs.Markup.{Attribute, Checks, unchecked}
 use Rattle.nzb_index.specs.Nzb.{file_checks, segment_checks}
@@ -19,6 +24,10 @@ attributes_of (name ∷ names) (value ∷ values) = record { name = name; value 
 abbrev pub place_of : List ℕ → List (List ℕ) → Option ℕ
 place_of name [] = None
 place_of name (n ∷ names) = if bytes_eq n name then Some 0 else option_map suc (place_of name names)
+
+-- the set has the names behind the first few, and nothing else
+abbrev pub HasLater : BTreeSet (Bor (List ℕ)) → List (List ℕ) → Type 0
+HasLater later names = (q : List ℕ) → contains_by (λ k. slice_cmp nat_cmp q k.now) later ≡ is_some (place_of q (drop FEW_NAMES names))
 
 -- which values an element's attributes may have
 abbrev pub checks_of : Element → Checks

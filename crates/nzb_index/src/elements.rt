@@ -11,7 +11,7 @@ use crate::pieces::text_end;
 use crate::scan::{between_end, is_white, name_end, starts_at, white_end, word_end};
 use crate::tags::refused;
 use crate::{NzbError, NzbReason};
-use ub_base::Bytes;
+use lists::Bytes;
 
 /// What stands next between the tags of an element.
 pub(crate) enum Child {

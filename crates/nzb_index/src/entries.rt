@@ -7,19 +7,16 @@ ghost use Rattle.nzb_index.specs.Nzb.{segment_count};
 ghost use Rattle.nzb_index.specs.Readers.{ReadsValue};
 ghost use Rattle.nzb_index.specs.Elements.{bare};
 ghost use Rattle.nzb_index.specs.Entries.{ReadsEntry, ReadsFile, file_at};
+ghost use Rattle.limits.specs.declared.TheConstants.{MOST_SEGMENTS};
 
 use crate::elements::{Child, child_end, id_end, leaf_end, trimmed};
 use crate::scan::unexpected;
 use crate::tags::{Element, MOST, Scratch, refused, tag_end};
 use crate::{FileEntry, Index, Meta, NzbError, NzbLimit, NzbReason, Segment};
+use limits::{MOST_FILES, MOST_SEGMENTS};
+use lists::{Bytes, List};
 use nntp_lines::MessageId;
 use std::alloc::Global;
-use ub_base::{Bytes, List};
-
-// How many files an NZB text lists, and how many segments they have together, at most.
-const MOST_FILES: usize = 9_999;
-
-const MOST_SEGMENTS: usize = 262_144;
 
 // ---- the head
 
@@ -133,7 +130,7 @@ fn segments_end(
     scratch: &mut Scratch,
 ) -> Result<usize, NzbError>
     requires within { at ≤ length text.now }
-    requires few { earlier ≤ 262144 }
+    requires few { earlier ≤ MOST_SEGMENTS }
     ensures { ReadsValue text.now at segments.new result (parent (segment_item earlier) (codes "segments") (bare closed) segments.old (drop at text.now)) }
 {
     if closed {
@@ -161,13 +158,13 @@ fn segment_end(
 ) -> Result<usize, NzbError>
     requires name { from + 1 < behind }
     requires within { behind ≤ length text.now }
-    requires few { earlier ≤ 262144 }
+    requires few { earlier ≤ MOST_SEGMENTS }
     ensures { ReadsValue text.now behind segments.new result (segment_item earlier segments.old (take (behind - (from + 1)) (drop (from + 1) text.now)) (drop from text.now) (drop behind text.now)) }
 {
     if &text[from + 1..behind] != b"segment".as_slice() {
         return Err(refused(from, NzbReason::WrongTag));
     }
-    if segments.len() >= MOST_SEGMENTS - earlier {
+    if segments.len() >= MOST_SEGMENTS as usize - earlier {
         return Err(NzbError::Limit(NzbLimit::Segments));
     }
     let (closed, at) = tag_end(text, behind, Element::Segment, scratch)?;
@@ -194,7 +191,7 @@ fn parts_end(
     scratch: &mut Scratch,
 ) -> Result<usize, NzbError>
     requires within { at ≤ length text.now }
-    requires few { earlier ≤ 262144 }
+    requires few { earlier ≤ MOST_SEGMENTS }
     ensures { ReadsValue text.now at file.new result (parent (file_part earlier) (codes "file") (bare closed) file.old (drop at text.now)) }
 {
     if closed {
@@ -223,7 +220,7 @@ fn part_end(
 ) -> Result<usize, NzbError>
     requires name { from + 1 < behind }
     requires within { behind ≤ length text.now }
-    requires few { earlier ≤ 262144 }
+    requires few { earlier ≤ MOST_SEGMENTS }
     ensures { ReadsValue text.now behind file.new result (file_part earlier file.old (take (behind - (from + 1)) (drop (from + 1) text.now)) (drop from text.now) (drop behind text.now)) }
 {
     let name = &text[from + 1..behind];
@@ -284,7 +281,7 @@ fn entry_end(
     requires name { from + 1 < behind }
     requires within { behind ≤ length text.now }
     requires count { count ≡ segment_count index.old }
-    requires few { count ≤ 262144 }
+    requires few { count ≤ MOST_SEGMENTS }
     ensures { ReadsEntry text.now behind index.new result (entry_item index.old (take (behind - (from + 1)) (drop (from + 1) text.now)) (drop from text.now) (drop behind text.now)) }
 {
     let name = &text[from + 1..behind];
@@ -296,7 +293,7 @@ fn entry_end(
     if name != b"file".as_slice() {
         return Err(refused(from, NzbReason::WrongTag));
     }
-    if index.files.len() >= MOST_FILES {
+    if index.files.len() >= MOST_FILES as usize {
         return Err(NzbError::Limit(NzbLimit::Files));
     }
     let (file, end) = file_end(alloc, text, behind, count, scratch)?;
@@ -314,7 +311,7 @@ fn file_end(
     scratch: &mut Scratch,
 ) -> Result<(FileEntry, usize), NzbError>
     requires within { at ≤ length text.now }
-    requires few { earlier ≤ 262144 }
+    requires few { earlier ≤ MOST_SEGMENTS }
     ensures { ReadsFile text.now at earlier result (file_at earlier (drop at text.now)) }
 {
     let (closed, behind) = tag_end(text, at, Element::File, scratch)?;

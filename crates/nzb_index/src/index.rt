@@ -1,6 +1,6 @@
 // What an NZB text lists.
+use lists::{Bytes, List};
 use nntp_lines::MessageId;
-use ub_base::{Bytes, List};
 
 /// What an NZB text lists (NZB 1.1), in the order of the text.
 #[derive(Drop)]

@@ -1,4 +1,6 @@
 // The laws of NZB texts.
+ghost use Rattle.nzb_index.specs.Reasons.{EndedAtEnd, IsOneOf};
+ghost use Rattle.nzb_index.specs.declared.error.NzbReason.TheVariants.{BadId, BadNumber, BadReference, DoubleAttribute, NoNumber, Subset, WrongTag};
 ghost use Rattle.nzb_index.specs.Refusal.{NzbReadsBack, IndexIsValid, KnownFirst, OneAnswer};
 
 /// Each text has exactly one of an index, a refusal and a limit.
@@ -20,4 +22,17 @@ pub fn index_is_valid()
 /// The canonical text of a valid index has that index, if it is no longer than a text may be.
 pub fn nzb_reads_back()
     ensures { NzbReadsBack }
+{}
+
+/// A text that is refused for one of these reasons has it, by the table of them, at the place that is told; and one that
+/// is refused by its end is told at its length.
+pub fn reasons_are_had()
+    ensures ended { EndedAtEnd }
+    ensures bad_reference { IsOneOf BadReference }
+    ensures wrong_tag { IsOneOf WrongTag }
+    ensures double_attribute { IsOneOf DoubleAttribute }
+    ensures bad_number { IsOneOf BadNumber }
+    ensures no_number { IsOneOf NoNumber }
+    ensures bad_id { IsOneOf BadId }
+    ensures subset { IsOneOf Subset }
 {}

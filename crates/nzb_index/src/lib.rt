@@ -15,6 +15,6 @@ mod write;
 
 pub use error::{NzbError, NzbLimit, NzbReason};
 pub use index::{FileEntry, Index, Meta, Segment};
-pub use laws::{index_is_valid, known_first, nzb_reads_back, one_answer};
+pub use laws::{index_is_valid, known_first, nzb_reads_back, one_answer, reasons_are_had};
 pub use read::read_nzb;
 pub use write::write_nzb;

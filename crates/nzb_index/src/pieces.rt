@@ -8,7 +8,7 @@ ghost use Rattle.nzb_index.specs.Readers.{ReadsMore, ReadsPiece, ReadsValue, sta
 use crate::references::reference_end;
 use crate::scan::{is_control, is_white, name_end, starts_at, unexpected, until, word_end};
 use crate::{NzbError, NzbReason};
-use ub_base::Bytes;
+use lists::Bytes;
 
 /// Where a piece of a value or text ends.
 pub(crate) enum Piece {

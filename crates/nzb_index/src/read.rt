@@ -17,11 +17,9 @@ use crate::scan::{
 };
 use crate::tags::{Element, Scratch, refused, tag_end};
 use crate::{Index, NzbError, NzbLimit, NzbReason};
+use limits::MOST_TEXT_BYTES;
+use lists::List;
 use std::alloc::Global;
-use ub_base::List;
-
-// The greatest length of a text in bytes.
-const MOST_BYTES: usize = 67_108_864;
 
 /// Reads the index of an NZB text (NZB 1.1), once from left to right. A text that is none is refused for the reason that is
 /// known first, with its place, or for a limit that is passed before any reason is known. Only what the index keeps takes
@@ -40,7 +38,7 @@ pub fn read_nzb(alloc: Global, text: &[u8]) -> Result<Index, NzbError>
 fn read_text(alloc: Global, text: &[u8]) -> Result<Index, NzbError>
     ensures { Answers text.now result }
 {
-    if text.len() > MOST_BYTES {
+    if text.len() > MOST_TEXT_BYTES as usize {
         return Err(NzbError::Limit(NzbLimit::TextBytes));
     }
     read_index(alloc, text)

@@ -1,24 +1,32 @@
 // Reading the start tags of an NZB text.
-ghost use Rattle.std.specs.Prelude.{◌≡◌, ◌≤◌, ◌<◌, length, drop, is_some, Err, OnErr, OnOk, ◌++◌, ◌∷◌, []};
-ghost use Rattle.nzb_index.specs.Markup.{attribute, has_attribute, or_nothing, or_zero};
+ghost use Rattle.std.specs.Prelude.{◌≡◌, ◌≤◌, ◌<◌, length, drop, not, true, is_some, Err, IfOk, OnErr, OnOk, ◌++◌, ◌∷◌, []};
+ghost use Rattle.std.specs.Bool.{OnTrue, OnFalse};
+ghost use Rattle.nzb_index.specs.Markup.{attribute, has_attribute, or_nothing};
 ghost use Rattle.nzb_index.specs.MarkupReading.{attribute_at, quoted_at, tag_at};
 ghost use Rattle.nzb_index.specs.Readers.{ReadsValue};
-ghost use Rattle.nzb_index.specs.Tags.{ReadsAttribute, ReadsTag, attributes_of, checks_of, place_of};
+ghost use Rattle.nzb_index.specs.Tags.{HasLater, ReadsAttribute, ReadsTag, attributes_of, checks_of, place_of};
 ghost use Rattle.nzb_index.specs.declared.error.NzbError.TheVariants.{Memory, Refused};
-ghost use Rattle.ub_base.specs.Numbers.{decimal_of, within};
+ghost use Rattle.nzb_index.specs.declared.tags.TheConstants.{FEW_NAMES};
+ghost use Rattle.numbers.specs.Numbers.{decimal_of, within, or_zero};
 
 use crate::pieces::value_end;
 use crate::scan::{name_end, starts_at, unexpected, white_end, word_end};
 use crate::{NzbError, NzbReason};
+use lists::{Bytes, Lines};
+use numbers::read_dec;
 use std::alloc::Global;
-use ub_base::{Bytes, Lines, read_dec};
+use std::collections::BTreeSet;
 
 // The greatest number of a date and of a length in bytes.
 pub(crate) const MOST: u64 = 999_999_999_999;
 
+// So many names of a tag are compared one by one. The later ones are kept in order too, where a tag has that many.
+const FEW_NAMES: usize = 16;
+
 /// What start tags and texts are read into, one after another, so that none takes memory of its own.
 #[derive(Drop)]
 pub(crate) struct Scratch {
+    alloc: Global,
     /// The names of a tag's attributes.
     pub(crate) names: Lines,
     /// Their values, in the same order.
@@ -30,6 +38,7 @@ pub(crate) struct Scratch {
 impl Scratch {
     pub(crate) fn new(alloc: Global) -> Self {
         Scratch {
+            alloc,
             names: Lines::new(alloc),
             values: Lines::new(alloc),
             bytes: Bytes::new(alloc),
@@ -85,6 +94,7 @@ pub(crate) fn tag_end(
 {
     scratch.names.clear();
     scratch.values.clear();
+    let mut later = BTreeSet::new(scratch.alloc);
     let mut end = at;
     while end < text.len() {
         let here = white_end(text, end);
@@ -98,25 +108,29 @@ pub(crate) fn tag_end(
         if here == end {
             return Err(unexpected(text, here));
         }
-        end = attribute_end(text, here, element, scratch)?;
+        end = attribute_end(text, here, element, scratch, &mut later)?;
     }
     Err(unexpected(text, end))
 }
 
-// Reads an attribute from its name on.
-fn attribute_end(
-    text: &[u8],
+// Reads an attribute from its name on. The set has the later names of the tag.
+fn attribute_end<'a>(
+    text: &'a [u8],
     at: usize,
     element: Element,
     scratch: &mut Scratch,
+    later: &mut BTreeSet<&'a [u8]>,
 ) -> Result<usize, NzbError>
     requires within { at ≤ length text.now }
     requires pairs { length scratch.old.names ≡ length scratch.old.values }
-    ensures { ReadsAttribute text.now at scratch.old.names scratch.old.values scratch.new.names scratch.new.values result
+    requires later { HasLater later.old scratch.old.names }
+    ensures later { OnOk result (HasLater later.new scratch.new.names) }
+    ensures read { ReadsAttribute text.now at scratch.old.names scratch.old.values scratch.new.names scratch.new.values result
         (attribute_at (checks_of element) (attributes_of scratch.old.names scratch.old.values) (drop at text.now)) }
 {
     let name = name_end(text, at)?;
-    if place_of(&scratch.names, &text[at..name]).is_some() {
+    let new = is_new(&scratch.names, later, &text[at..name])?;
+    if !new {
         return Err(refused(at, NzbReason::DoubleAttribute));
     }
     let equals = word_end(text, white_end(text, name), b"=")?;
@@ -152,6 +166,42 @@ fn push(lines: &mut Lines, line: &[u8]) -> Result<(), NzbError>
         Ok(()) => Ok(()),
         Err(_) => Err(NzbError::Memory),
     }
+}
+
+// Whether no name so far is this one, which is then among the later ones where it is one of them.
+fn is_new<'a>(
+    names: &Lines,
+    later: &mut BTreeSet<&'a [u8]>,
+    name: &'a [u8],
+) -> Result<bool, NzbError>
+    requires { HasLater later.old names.now }
+    ensures new { IfOk result (λ new. new ≡ not (is_some (place_of name.now names.now))) }
+    ensures later { IfOk result (λ new. OnTrue new (HasLater later.new (names.now ++ name.now ∷ []))) }
+    ensures err { OnErr result (result ≡ Err Memory) }
+{
+    if is_among_first(names, name) {
+        return Ok(false);
+    }
+    if names.len() < FEW_NAMES {
+        return Ok(true);
+    }
+    match later.insert(name) {
+        Ok(added) => Ok(added),
+        Err(_) => Err(NzbError::Memory),
+    }
+}
+
+// Whether this name is one of the first.
+fn is_among_first(names: &Lines, name: &[u8]) -> bool
+    ensures found { OnTrue result (is_some (place_of name.now names.now) ≡ true) }
+    ensures later { OnFalse result (is_some (place_of name.now names.now) ≡ is_some (place_of name.now (drop FEW_NAMES names.now))) }
+{
+    for at in 0..names.len().min(FEW_NAMES) {
+        if names.line(at) == name {
+            return true;
+        }
+    }
+    false
 }
 
 // The place of the first of these names that is this one.

@@ -5,7 +5,8 @@ ghost use Rattle.std.specs.List.{flat_map, prefix_len};
 ghost use Rattle.nzb_index.specs.Canonical.{escaped, file_tag, file_text, group_text, head_text, is_plain, meta_text, nzb_text, reference_of, segment_text};
 
 use crate::{FileEntry, Index, Meta, Segment};
-use ub_base::{Bytes, Memory, write_dec};
+use lists::{Bytes, Memory};
+use numbers::write_dec;
 
 /// Appends the canonical text of an index (NZB 1.1): lines that each end with LF, and in values and texts references for
 /// `&`, `<`, `>`, `"`, `'` and the bytes 9, 10 and 13. Where memory runs out, the output is as it was.

@@ -1,7 +1,7 @@
 // What the tests hand in.
+use lists::Bytes;
 use std::alloc::Global;
 use std::test::Fail;
-use ub_base::Bytes;
 
 /// A list of these bytes.
 pub(crate) fn bytes_of(alloc: Global, text: &[u8]) -> Result<Bytes, Fail> {

@@ -1,9 +1,9 @@
 // NZB texts, read and written.
 use crate::fixtures::bytes_of;
+use lists::Bytes;
 use nzb_index::{NzbError, NzbLimit, NzbReason, read_nzb, write_nzb};
 use std::alloc::Global;
 use std::test::Fail;
-use ub_base::Bytes;
 
 const EXAMPLE: &[u8] = b"<?xml version=\"1.0\" encoding=\"iso-8859-1\" ?>\n\
 <!DOCTYPE nzb PUBLIC \"-//newzBin//DTD NZB 1.1//EN\" \"http://www.newzbin.com/DTD/nzb/nzb-1.1.dtd\">\n\

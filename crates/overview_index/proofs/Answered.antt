@@ -26,6 +26,7 @@ use Rattle.overview_index.proofs.Files.{AllZip-push, entry_kept, files_kept, fil
 use Rattle.overview_index.proofs.Keys.{same_key-Decides, same_key-sym}
 use Rattle.overview_index.proofs.Lines.{counted_more, counted_same, key_there, keys_more, keys_stay, part_absent, part_said, parts_more, parts_stay}
 use Rattle.overview_index.proofs.Once.{IsDistinct-each_once}
+use Rattle.limits.specs.declared.TheConstants.{MOST_FILES, MOST_SEGMENTS}
 
 own_key : (a : Counted) → has_key (key_of a) a ≡ true
 own_key a = (same_key-Decides (key_of a) (key_of a)).1 refl
@@ -55,8 +56,8 @@ module _ (old new : Grouper) (group : List ℕ) (articles : List Counted) (a : C
     files = subst (AllZip (IsEntryOf articles) (keys_of articles)) (sym files) stands.files;
     count = count ∙ stands.count;
     in_files = count ∙ stands.in_files ∙ ap (λ es. count_in (values_of es)) (sym files);
-    few_segments = subst (λ n. n ≤ 262144) (sym count) stands.few_segments;
-    few_files = subst (λ es. length es ≤ 9999) (sym files) stands.few_files;
+    few_segments = subst (λ n. n ≤ MOST_SEGMENTS) (sym count) stands.few_segments;
+    few_files = subst (λ es. length es ≤ MOST_FILES) (sym files) stands.few_files;
   }
 
   -- a file for which another stands in the table
@@ -82,15 +83,15 @@ module _ (old new : Grouper) (group : List ℕ) (articles : List Counted) (a : C
       in_files =
           let lens : btree_map_len behind.segments ≡ btree_map_len before.segments = ap length same.segments in
           omega (arith, set_count, lens, stands.in_files, count);
-      few_segments = subst (λ n. n ≤ 262144) (sym count) stands.few_segments;
-      few_files = subst (λ n. n ≤ 9999) (sym set_len) stands.few_files;
+      few_segments = subst (λ n. n ≤ MOST_SEGMENTS) (sym count) stands.few_segments;
+      few_files = subst (λ n. n ≤ MOST_FILES) (sym set_len) stands.few_files;
     }
 
     any_there : list_any (λ other. has_key (key_of other) a) articles ≡ true
     any_there = sym (file_there old group articles a read stands) ∙ ap is_some there
 
     -- the file with the article
-    set_more : IsDraftOf (articles ++ a ∷ []) (key_of a) behind → new.count ≡ length (parts_of (articles ++ a ∷ [])) → new.count ≡ count_in (values_of new.files.entries) → new.count ≤ 262144
+    set_more : IsDraftOf (articles ++ a ∷ []) (key_of a) behind → new.count ≡ length (parts_of (articles ++ a ∷ [])) → new.count ≡ count_in (values_of new.files.entries) → new.count ≤ MOST_SEGMENTS
         → HasFilesOf new group (articles ++ a ∷ [])
     set_more is count in_files few = record {
       group_is = same_group ∙ stands.group_is;
@@ -103,7 +104,7 @@ module _ (old new : Grouper) (group : List ℕ) (articles : List Counted) (a : C
       count = count;
       in_files = in_files;
       few_segments = few;
-      few_files = subst (λ n. n ≤ 9999) (sym set_len) stands.few_files;
+      few_files = subst (λ n. n ≤ MOST_FILES) (sym set_len) stands.few_files;
     }
 
     repeat_stands : IsSome (get nat_cmp before.segments (number_of a)) → IsSameDraft before behind → new.count ≡ old.count → HasFilesOf new group (articles ++ a ∷ [])
@@ -113,7 +114,7 @@ module _ (old new : Grouper) (group : List ℕ) (articles : List Counted) (a : C
         set_more (draft_same (key_of a) (articles ++ a ∷ []) before behind same (draft_repeat (key_of a) a articles before (own_key a) there_already is))
         (count ∙ stands.count ∙ sym (parts_stay articles a part)) ((set_same same count).in_files) ((set_same same count).few_segments)
 
-    more_stands : get nat_cmp before.segments (number_of a) ≡ None → HasSegmentMore a before behind → old.count < 262144 → new.count ≡ old.count + 1 → HasFilesOf new group (articles ++ a ∷ [])
+    more_stands : get nat_cmp before.segments (number_of a) ≡ None → HasSegmentMore a before behind → old.count < MOST_SEGMENTS → new.count ≡ old.count + 1 → HasFilesOf new group (articles ++ a ∷ [])
     more_stands absent more few count =
         let is = file_is old group articles a read stands before there in
         let part : list_any (λ other. same_part other a) articles ≡ false = sym (number_there old group articles a read stands before there) ∙ ap is_some absent in
@@ -121,7 +122,7 @@ module _ (old new : Grouper) (group : List ℕ) (articles : List Counted) (a : C
         (omega (arith, count, stands.count, parts_more articles a part)) (omega (arith, set_count, more.more, stands.in_files, count)) (omega (arith, count, few))
 
   -- a file that the article begins
-  begun_stands : list_any (λ other. has_key (key_of other) a) articles ≡ false → HasFileMore a (spelled (key_of a)) old.files.entries new.files.entries → old.count < 262144 → length old.files.entries < 9999
+  begun_stands : list_any (λ other. has_key (key_of other) a) articles ≡ false → HasFileMore a (spelled (key_of a)) old.files.entries new.files.entries → old.count < MOST_SEGMENTS → length old.files.entries < MOST_FILES
       → new.count ≡ old.count + 1 → HasFilesOf new group (articles ++ a ∷ [])
   begun_stands absent more few few_files count =
       let k = key_of a in
@@ -168,7 +169,7 @@ module _ (old new : Grouper) (group : List ℕ) (lines : List Over) (line : Over
         behind_line (more_stands old new group (counted_in lines) a read stands.files same_group ch.before ch.behind ch.there ch.files adds.0 adds.2 adds.1 (counts New refl)),
       )
     where
-      within_limits_there : list_any (λ other. has_key (key_of other) a) (counted_in lines) ≡ true → old.count < 262144 → (error : GroupError) → ¬ IsOverLimit lines line error
+      within_limits_there : list_any (λ other. has_key (key_of other) a) (counted_in lines) ≡ true → old.count < MOST_SEGMENTS → (error : GroupError) → ¬ IsOverLimit lines line error
       within_limits_there key few Memory over = over
       within_limits_there key few Segments over = absurd (omega (arith, over.1, stands.files.count, few))
       within_limits_there key few Files over =
@@ -183,7 +184,7 @@ module _ (old new : Grouper) (group : List ℕ) (lines : List Over) (line : Over
   changed (Err Segments) ch counts stays =
       let adds = ch.adds in
       let part : list_any (λ other. same_part other a) (counted_in lines) ≡ false = sym (number_there old group (counted_in lines) a read stands.files ch.before ch.there) ∙ ap is_some adds.0 in
-      (((a, is, part), subst (λ n. 262144 ≤ n) stands.files.count adds.1), record { files = set_same old new group (counted_in lines) a read stands.files same_group ch.before ch.behind ch.there ch.files adds.2 (stays Segments refl) })
+      (((a, is, part), subst (λ n. MOST_SEGMENTS ≤ n) stands.files.count adds.1), record { files = set_same old new group (counted_in lines) a read stands.files same_group ch.before ch.behind ch.there ch.files adds.2 (stays Segments refl) })
   changed (Err Files) ch counts stays = absurd ch.adds
 
   -- the article begins a file
@@ -197,7 +198,7 @@ module _ (old new : Grouper) (group : List ℕ) (lines : List Over) (line : Over
         behind_line (begun_stands old new group (counted_in lines) a read stands.files same_group key adds.2 adds.0 adds.1 (counts New refl)),
       )
     where
-      within_limits : old.count < 262144 → length old.files.entries < 9999 → (error : GroupError) → ¬ IsOverLimit lines line error
+      within_limits : old.count < MOST_SEGMENTS → length old.files.entries < MOST_FILES → (error : GroupError) → ¬ IsOverLimit lines line error
       within_limits few few_files Memory over = over
       within_limits few few_files Segments over = absurd (omega (arith, over.1, stands.files.count, few))
       within_limits few few_files Files over = absurd (omega (arith, over.2, few_files, length_zip (IsEntryOf (counted_in lines)) (keys_of (counted_in lines)) old.files.entries stands.files.files))
@@ -207,13 +208,13 @@ module _ (old new : Grouper) (group : List ℕ) (lines : List Over) (line : Over
   begun (Err Segments) be counts stays =
       let adds = be.adds in
       let key : list_any (λ other. has_key (key_of other) a) (counted_in lines) ≡ false = sym (file_there old group (counted_in lines) a read stands.files) ∙ ap is_some be.absent in (
-        ((a, is, part_absent (counted_in lines) a key), subst (λ n. 262144 ≤ n) stands.files.count adds.0),
+        ((a, is, part_absent (counted_in lines) a key), subst (λ n. MOST_SEGMENTS ≤ n) stands.files.count adds.0),
         record { files = unchanged old new group (counted_in lines) a read stands.files same_group adds.1 (stays Segments refl) },
       )
   begun (Err Files) be counts stays =
       let adds = be.adds in
       let key : list_any (λ other. has_key (key_of other) a) (counted_in lines) ≡ false = sym (file_there old group (counted_in lines) a read stands.files) ∙ ap is_some be.absent in (
-        ((a, is, key), subst (λ n. n < 262144) stands.files.count adds.0, omega (arith, adds.1, length_zip (IsEntryOf (counted_in lines)) (keys_of (counted_in lines)) old.files.entries stands.files.files)),
+        ((a, is, key), subst (λ n. n < MOST_SEGMENTS) stands.files.count adds.0, omega (arith, adds.1, length_zip (IsEntryOf (counted_in lines)) (keys_of (counted_in lines)) old.files.entries stands.files.files)),
         record { files = unchanged old new group (counted_in lines) a read stands.files same_group adds.2 (stays Files refl) },
       )
 

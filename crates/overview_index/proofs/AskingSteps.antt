@@ -1,8 +1,7 @@
 -- A newsgroup chosen, and one range asked, from what the dialog says.
-use Rattle.std.proofs.Common.{◌≡◌, ◌≢◌, ◌+◌, ℕ, Bool, true, false, List, [], ◌∷◌, ◌++◌, Option, Some, refl, ap, subst, ◌∙◌, length, drop, arith, lit<, inl, inr}
+use Rattle.std.proofs.Common.{◌≡◌, ◌≢◌, ◌+◌, ℕ, Bool, true, false, List, [], ◌∷◌, ◌++◌, Option, Some, refl, ap, subst, ◌∙◌, inl, inr}
 use Rattle.std.specs.Prelude.{◌==◌, ◌||◌}
-use Rattle.std.proofs.lemmas.List.{length-append, length-drop, drop-append-le, nil_from_length}
-use Rattle.ub_base.specs.declared.links.LinkEvent.{LinkEvent}
+use Rattle.io_traits.specs.declared.links.LinkEvent.{LinkEvent}
 use Rattle.nntp_lines.specs.GroupReply.{group_of}
 use Rattle.nntp_lines.specs.declared.group.GroupReply.{GroupReply}
 use Rattle.nntp_lines.specs.declared.why.Why.{Why}
@@ -10,28 +9,15 @@ use Rattle.nntp_lines.specs.declared.why.Why.TheVariants as why
 use Rattle.link_dialog.specs.declared.answer.Answer.TheVariants as answer
 use Rattle.link_dialog.specs.declared.awaited.Awaited.TheVariants.{Over as TheOver}
 use Rattle.link_dialog.specs.declared.dialog.Dialog.{Dialog}
-use Rattle.link_dialog.specs.Dialog.{Message, login_messages}
+use Rattle.link_dialog.specs.Dialog.{Message, answers_of}
 use Rattle.link_dialog.specs.Replies.{Reply}
-use Rattle.link_dialog.specs.Talk.{Start, Rests, Ends, Talked, patience_of, line_reply, quit_message}
+use Rattle.link_dialog.specs.Talk.{Start, Rests, Ends, IsRefused, Talked, patience_of, line_reply, quit_message}
 use Rattle.link_dialog.specs.TalkBlock.{IsBlockHeard}
-use Rattle.link_dialog.proofs.Talking.{ends_talked}
-use Rattle.overview_index.specs.Asking.{IsAnswered, IsRefused, IsChosen}
-use Rattle.overview_index.specs.Session.{Query, Range, group_message, over_message, answers_of, GroupWasRefused, WasRefused, WasOver, WasOverBefore}
+use Rattle.link_dialog.proofs.Sessions.{answers_more, no_answers}
+use Rattle.overview_index.specs.Asking.{IsAnswered, IsChosen}
+use Rattle.overview_index.specs.Session.{Query, Range, group_message, over_message, goes_on, GroupWasRefused, WasRefused, WasOver, WasOverBefore}
 
 -- ---- the replies behind those to the login
-
-replies_at_rest : (start : Start) (now : Option (List LinkEvent)) (dialog : Dialog) (messages : List Message) (replies : List Reply) → Rests start now dialog messages replies → length replies ≡ 1 + length (login_messages start.login replies) + length messages
-replies_at_rest start now dialog messages replies r =
-    omega (arith, r.stands.count, length-append (login_messages start.login replies) messages)
-
-pub answers_more : (start : Start) (now : Option (List LinkEvent)) (dialog : Dialog) (messages : List Message) (replies more : List Reply) → Rests start now dialog messages replies → answers_of start.login (replies ++ more) ≡ answers_of start.login replies ++ more
-answers_more start now dialog messages replies more r =
-    ap (λ (l : List Message). drop (1 + length l) (replies ++ more)) (r.settled more)
-    ∙ drop-append-le (1 + length (login_messages start.login replies)) replies more (omega (arith, replies_at_rest start now dialog messages replies r))
-
-no_answers : (start : Start) (now : Option (List LinkEvent)) (dialog : Dialog) (replies : List Reply) → Rests start now dialog [] replies → answers_of start.login replies ≡ []
-no_answers start now dialog replies r =
-    nil_from_length (answers_of start.login replies) (omega (arith, replies_at_rest start now dialog [] replies r, length-drop (1 + length (login_messages start.login replies)) replies))
 
 first_answer : (start : Start) (now : Option (List LinkEvent)) (dialog : Dialog) (replies : List Reply) (reply : Reply) → Rests start now dialog [] replies → answers_of start.login (replies ++ reply ∷ []) ≡ reply ∷ []
 first_answer start now dialog replies reply r =
@@ -66,10 +52,6 @@ group_refused q start then now dialog replies code line patience r not t =
       talked = subst (λ (p : ℕ). Talked start now p (group_message q.group ∷ quit_message ∷ []) (replies ++ line_reply code line ∷ [])) patience t;
     } in
     inl refused
-
--- a dialog that is over is one with QUIT behind it
-pub quit_at_end : (start : Start) (now : Option (List LinkEvent)) (patience : ℕ) (messages : List Message) (out : List ℕ) (reason : Why) (replies : List Reply) → Ends start now patience messages out reason replies → Talked start now patience (messages ++ quit_message ∷ []) replies
-quit_at_end start now patience messages out reason replies e = ends_talked start now patience messages (quit_message ∷ []) out reason replies (lit< tt, tt) e
 
 -- the newsgroup is chosen, and the link goes on or not
 pub group_chosen : (q : Query) (start : Start) (then now : Option (List LinkEvent)) (dialog : Dialog) (replies : List Reply) (group : GroupReply) (line : List ℕ) → patience_of dialog ≡ q.patience → Rests start then dialog [] replies → group_of line ≡ Some group →
@@ -117,10 +99,5 @@ range_heard_at_end start now dialog messages range replies code kept block goes 
 
 -- it is refused
 pub range_refused : (start : Start) (now : Option (List LinkEvent)) (patience : ℕ) (messages : List Message) (range : Range) (replies : List Reply) (reply : Reply) (code : ℕ) → reply.code ≡ code → ((code == 224) || (code == 423)) ≡ false →
-    Talked start now patience ((messages ++ over_message range ∷ []) ++ quit_message ∷ []) (replies ++ reply ∷ []) → IsRefused start now patience messages range replies code
-range_refused start now patience messages range replies reply code is not t = record {
-  reply = reply;
-  code_is = is;
-  refused = ap (λ n. (n == 224) || (n == 423)) is ∙ not;
-  talked = t;
-}
+    Talked start now patience ((messages ++ over_message range ∷ []) ++ quit_message ∷ []) (replies ++ reply ∷ []) → (x : IsRefused start now patience messages (over_message range) replies code) × (goes_on x.reply ≡ false)
+range_refused start now patience messages range replies reply code is not t = (record { reply = reply; code_is = is; talked = t }, ap (λ n. (n == 224) || (n == 423)) is ∙ not)

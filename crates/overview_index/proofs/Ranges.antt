@@ -6,6 +6,7 @@ use Rattle.nntp_lines.specs.declared.group.GroupReply.{GroupReply}
 use Rattle.link_dialog.specs.Dialog.{Message}
 use Rattle.overview_index.specs.Session.{Query, Range, ranges_from, ranges_in, over_message, messages_of}
 use Rattle.overview_index.proofs.AddedLines.{take_there}
+use Rattle.limits.specs.declared.TheConstants.{MOST_FILES}
 
 abbrev range : ℕ → ℕ → Range
 range first last = record { first = first; last = last }

@@ -5,24 +5,23 @@ use Rattle.std.specs.List.{AllByRecursion}
 use Rattle.std.proofs.lemmas.List.{length-append, length-drop, nil_from_length, take_all}
 use Rattle.std.proofs.lemmas.List.Concat.{flat_map-append}
 use Rattle.std.proofs.lemmas.Option.{slice_get_within}
-use Rattle.ub_base.specs.declared.links.LinkEvent.{LinkEvent}
+use Rattle.io_traits.specs.declared.links.LinkEvent.{LinkEvent}
 use Rattle.nntp_lines.specs.declared.group.GroupReply.{GroupReply}
 use Rattle.nntp_lines.specs.declared.why.Why.{Why}
 use Rattle.nntp_lines.specs.declared.why.Why.TheVariants as why
 use Rattle.nzb_index.specs.declared.index.Index.{Index}
 use Rattle.link_dialog.specs.declared.dialog.Dialog.{Dialog}
-use Rattle.link_dialog.specs.Dialog.{Message, IsDialog, login_messages}
+use Rattle.link_dialog.specs.Dialog.{Message, answers_of}
 use Rattle.link_dialog.specs.Replies.{Reply}
-use Rattle.link_dialog.specs.Talk.{Start, IsOpen, Ends, Talked, patience_of, quit_message}
-use Rattle.link_dialog.proofs.HeardCount.{few_heard}
-use Rattle.overview_index.specs.Asking.{Tallies, Fills, StandsAt, IsAnswered, IsRefused, IsCut, KeepsLiveIf, error_of, Begins, IsChosen, UnderWay, HasHeardAll}
+use Rattle.link_dialog.specs.Talk.{Start, IsOpen, IsRefused, Ends, Talked, patience_of, quit_message}
+use Rattle.link_dialog.proofs.Sessions.{answers_more, no_answers_at_end}
+use Rattle.overview_index.specs.Asking.{Tallies, Fills, StandsAt, IsAnswered, IsCut, KeepsLiveIf, error_of, Begins, IsChosen, UnderWay, HasHeardAll}
 use Rattle.overview_index.specs.Group.{IsIndexOfLines}
-use Rattle.overview_index.specs.Session.{Query, Range, ranges_in, messages_of, over_message, goes_on, lines_in, overs_in, answers_of, Overview, HasIndexed, OverWasRefused, WasRefused, WasFilled, WasOverBefore, WasOverWithin, WasOver, WasStopped, IndexEnds}
+use Rattle.overview_index.specs.Session.{Query, Range, ranges_in, messages_of, over_message, goes_on, lines_in, overs_in, Overview, HasIndexed, OverWasRefused, WasRefused, WasFilled, WasOverBefore, WasOverWithin, WasOver, WasStopped, IndexEnds}
 use Rattle.overview_index.specs.declared.adding.Desk.{Desk}
 use Rattle.overview_index.specs.declared.asking.Chosen.{Chosen}
 use Rattle.overview_index.specs.declared.added.GroupError.{GroupError}
 use Rattle.overview_index.specs.declared.added.GroupError.TheVariants as group_error
-use Rattle.overview_index.proofs.AskingSteps.{answers_more}
 use Rattle.overview_index.proofs.Ranges.{messages_more}
 
 -- ---- the opening
@@ -33,15 +32,11 @@ opens q start now live dialog o = record { patience = o.0; replies = o.2.0; rest
 -- the link is over before the login is done
 pub opening_over : (q : Query) (start : Start) (now : Option (List LinkEvent)) (reason : Why) → (out : List ℕ) × (replies : List Reply) × Ends start now q.patience [] out reason replies → WasOver q start now reason
 opening_over q start now reason (out, replies, e) =
-    let login : List Message = login_messages start.login replies in
-    let alone : IsDialog start.login [] q.patience e.events replies = e.dialog [] tt in
-    let heard : length replies ≤ length (login ++ []) + 1 = few_heard q.patience (login ++ []) e.events replies alone.answers in
-    let same : length (login ++ []) ≡ length login = ap length (append-nil login) in
     let before : WasOverBefore q start now reason = record {
       replies = replies;
       said = [];
       said_is = inl refl;
-      unheard = nil_from_length (answers_of start.login replies) (omega (arith, heard, same, length-drop (1 + length login) replies));
+      unheard = no_answers_at_end start now q.patience out reason replies e;
       out = out;
       ends = e;
     } in
@@ -172,8 +167,8 @@ range_ends q start was quitted dialog group desk done range reply group_error.Fi
 
 -- OVER is refused
 pub range_refused : (q : Query) (start : Start) (was now : Option (List LinkEvent)) (dialog : Dialog) (group : GroupReply) (desk : Desk) (done : ℕ) (range : Range) (code : ℕ) → (n : IsNext q start was dialog group desk done range) →
-    IsRefused start now (patience_of dialog) (messages_of q.group (take done (ranges_in q group))) range n.under_way.replies code → WasRefused q start now code
-range_refused q start was now dialog group desk done range code n x =
+    (x : IsRefused start now (patience_of dialog) (messages_of q.group (take done (ranges_in q group))) (over_message range) n.under_way.replies code) × (goes_on x.reply ≡ false) → WasRefused q start now code
+range_refused q start was now dialog group desk done range code n (x, not) =
     let u = n.under_way in
     let refused : OverWasRefused q start now code = record {
       replies = u.replies ++ x.reply ∷ [];
@@ -186,7 +181,7 @@ range_refused q start was now dialog group desk done range code n x =
       group_is = u.overview.group_is;
       each = u.overview.each;
       code_is = x.code_is;
-      refused = x.refused;
+      refused = not;
       more = omega (arith, u.count, slice_get_within (ranges_in q group) done range n.there);
       talked = quit_said q start was now dialog group desk done range (u.replies ++ x.reply ∷ []) n x.talked;
     } in

@@ -1,6 +1,6 @@
 -- The steps of an index's session: a newsgroup chosen, lines added, one range asked, and all ranges in turn.
 use Rattle.std.specs.Prelude.{◌≡◌, ◌≢◌, ℕ, min, Bool, true, false, List, [], ◌∷◌, ◌++◌, length, take, Option, Some, Result, Ok, Err, ⊤}
-use Rattle.ub_base.specs.declared.links.LinkEvent.{LinkEvent}
+use Rattle.io_traits.specs.declared.links.LinkEvent.{LinkEvent}
 use Rattle.nntp_lines.specs.GroupReply.{group_of}
 use Rattle.nntp_lines.specs.declared.group.GroupReply.{GroupReply}
 use Rattle.nntp_lines.specs.declared.why.Why.{Why}
@@ -8,13 +8,13 @@ use Rattle.nntp_lines.specs.declared.why.Why.TheVariants as why
 use Rattle.link_dialog.specs.declared.awaited.Awaited.TheVariants.{Over as TheOver}
 use Rattle.link_dialog.specs.declared.dialog.Dialog.{Dialog}
 use Rattle.link_dialog.specs.BlockHearing.{HasReply}
-use Rattle.link_dialog.specs.Dialog.{Message}
+use Rattle.link_dialog.specs.Dialog.{Message, answers_of}
 use Rattle.link_dialog.specs.Replies.{Reply}
-use Rattle.link_dialog.specs.Talk.{Start, Rests, Ends, Talked, patience_of, line_reply, quit_message}
+use Rattle.link_dialog.specs.Talk.{Start, Rests, Ends, IsRefused, Talked, patience_of, line_reply, quit_message}
 use Rattle.overview_lines.specs.OverLine.{Over}
 use Rattle.overview_index.specs.Group.{IsOverLimit}
 use Rattle.overview_index.specs.Grouper.{StandsFor}
-use Rattle.overview_index.specs.Session.{Query, Range, ranges_in, group_message, over_message, messages_of, goes_on, lines_in, overs_in, skipped_in, answers_of, Overview, FitAnIndex, IndexEnds}
+use Rattle.overview_index.specs.Session.{Query, Range, ranges_in, group_message, over_message, messages_of, goes_on, lines_in, overs_in, skipped_in, Overview, FitAnIndex, IndexEnds}
 use Rattle.overview_index.specs.declared.adding.Desk.{Desk}
 use Rattle.overview_index.specs.declared.asking.Asked.{Asked}
 use Rattle.overview_index.specs.declared.asking.Asked.TheVariants as asked
@@ -59,13 +59,6 @@ pub record IsAnswered (start : Start) (now : Option (List LinkEvent)) (dialog : 
   pub goes : goes_on reply ≡ true
   pub stands : StandsAt start now dialog (messages ++ over_message range ∷ []) (replies ++ reply ∷ []) live
 
--- OVER was refused with this code, and QUIT was said
-pub record IsRefused (start : Start) (now : Option (List LinkEvent)) (patience : ℕ) (messages : List Message) (range : Range) (replies : List Reply) (code : ℕ) : Type 0 where
-  pub reply : Reply
-  pub code_is : reply.code ≡ code
-  pub refused : goes_on reply ≡ false
-  pub talked : Talked start now patience ((messages ++ over_message range ∷ []) ++ quit_message ∷ []) (replies ++ reply ∷ [])
-
 -- the link is over for this reason, and the range has no reply
 pub record IsCut (start : Start) (now : Option (List LinkEvent)) (patience : ℕ) (messages : List Message) (range : Range) (replies : List Reply) (reason : Why) : Type 0 where
   pub out : List ℕ
@@ -73,7 +66,8 @@ pub record IsCut (start : Start) (now : Option (List LinkEvent)) (patience : ℕ
 
 abbrev pub IsAsked : Start → Option (List LinkEvent) → Dialog → List Message → Range → List Reply → List ℕ → Asked → Type 0
 IsAsked start now dialog messages range replies block (asked.Heard code kept live) = IsAnswered start now dialog messages range replies code kept block live
-IsAsked start now dialog messages range replies block (asked.Refused code) = IsRefused start now (patience_of dialog) messages range replies code
+IsAsked start now dialog messages range replies block (asked.Refused code) =
+    (x : IsRefused start now (patience_of dialog) messages (over_message range) replies code) × (goes_on x.reply ≡ false)
 IsAsked start now dialog messages range replies block (asked.Over reason) = IsCut start now (patience_of dialog) messages range replies reason
 
 -- the link stays as it is where the reply was heard, and nothing behind it

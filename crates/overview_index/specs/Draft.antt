@@ -13,6 +13,7 @@ use Rattle.overview_index.specs.declared.added.Added.TheVariants.{New, Repeat, N
 use Rattle.overview_index.specs.declared.added.GroupError.{GroupError}
 use Rattle.overview_index.specs.declared.added.GroupError.TheVariants.{Memory, Segments, Files}
 use Rattle.overview_index.specs.declared.draft.Draft.{Draft}
+use Rattle.limits.specs.declared.TheConstants.{MOST_SEGMENTS}
 
 -- the article of a line that was read, with the count of its subject
 abbrev pub article_in : OverLine → Count → Counted
@@ -51,11 +52,11 @@ pub record HasSegmentMore (article : Counted) (old new : Draft) : Type 0 where
 
 -- what becomes of a file to which an article is added, where so many segments are in all files
 abbrev pub AddsArticle : Counted → ℕ → Draft → Draft → Result Added GroupError → Type 0
-AddsArticle article count old new (Ok New) = (get nat_cmp old.segments (number_of article) ≡ None) × (count < 262144) × HasSegmentMore article old new
+AddsArticle article count old new (Ok New) = (get nat_cmp old.segments (number_of article) ≡ None) × (count < MOST_SEGMENTS) × HasSegmentMore article old new
 AddsArticle article count old new (Ok Repeat) = IsSome (get nat_cmp old.segments (number_of article)) × IsSameDraft old new
 AddsArticle article count old new (Ok NoCount) = ⊥
 AddsArticle article count old new (Err Memory) = IsSameDraft old new
-AddsArticle article count old new (Err Segments) = (get nat_cmp old.segments (number_of article) ≡ None) × (262144 ≤ count) × IsSameDraft old new
+AddsArticle article count old new (Err Segments) = (get nat_cmp old.segments (number_of article) ≡ None) × (MOST_SEGMENTS ≤ count) × IsSameDraft old new
 AddsArticle article count old new (Err Files) = ⊥
 
 -- a file as it is in an index

@@ -13,6 +13,7 @@ use Rattle.overview_lines.specs.OverLine.{Over}
 use Rattle.overview_lines.specs.declared.count.Count.{Count}
 use Rattle.overview_index.specs.declared.added.GroupError.{GroupError}
 use Rattle.overview_index.specs.declared.added.GroupError.TheVariants.{Memory, Segments, Files}
+use Rattle.limits.specs.declared.TheConstants.{MOST_FILES, MOST_SEGMENTS}
 
 -- ---- articles
 
@@ -123,5 +124,5 @@ BeginsFile lines line = (a : Counted) × (counted line ≡ Some a) × IsFalse (l
 -- not, 9,999 files are there and it begins another.
 abbrev pub IsOverLimit : List Over → Over → GroupError → Type 0
 IsOverLimit lines line Memory = ⊥
-IsOverLimit lines line Segments = BringsSegment lines line × (262144 ≤ segments_in lines)
-IsOverLimit lines line Files = BeginsFile lines line × (segments_in lines < 262144) × (9999 ≤ files_in lines)
+IsOverLimit lines line Segments = BringsSegment lines line × (MOST_SEGMENTS ≤ segments_in lines)
+IsOverLimit lines line Files = BeginsFile lines line × (segments_in lines < MOST_SEGMENTS) × (MOST_FILES ≤ files_in lines)

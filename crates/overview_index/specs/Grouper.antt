@@ -14,6 +14,7 @@ use Rattle.overview_index.specs.declared.added.GroupError.{GroupError}
 use Rattle.overview_index.specs.declared.added.GroupError.TheVariants.{Memory, Segments, Files}
 use Rattle.overview_index.specs.declared.draft.Draft.{Draft}
 use Rattle.overview_index.specs.declared.grouper.Grouper.{Grouper}
+use Rattle.limits.specs.declared.TheConstants.{MOST_FILES, MOST_SEGMENTS}
 
 -- ---- the files
 
@@ -48,8 +49,8 @@ pub record HasFilesOf (grouper : Grouper) (group : List ℕ) (articles : List Co
   pub files : AllZip (IsEntryOf articles) (keys_of articles) grouper.files.entries
   pub count : grouper.count ≡ length (parts_of articles)
   pub in_files : grouper.count ≡ count_in (values_of grouper.files.entries)
-  pub few_segments : grouper.count ≤ 262144
-  pub few_files : length grouper.files.entries ≤ 9999
+  pub few_segments : grouper.count ≤ MOST_SEGMENTS
+  pub few_files : length grouper.files.entries ≤ MOST_FILES
 
 -- the grouper has the files of these lines, of this newsgroup
 pub record StandsFor (grouper : Grouper) (group : List ℕ) (lines : List Over) : Type 0 where
@@ -75,12 +76,12 @@ pub record HasFileMore {Z : Type 0} (article : Counted) (text : List ℕ) (old n
   pub files : new ≡ old ++ (key, draft) ∷ []
 
 abbrev pub AddsFile : {Z : Type 0} → Counted → List ℕ → ℕ → List (Vec ℕ Z × Draft) → List (Vec ℕ Z × Draft) → Result Added GroupError → Type 0
-AddsFile article text count old new (Ok New) = (count < 262144) × (length old < 9999) × HasFileMore article text old new
+AddsFile article text count old new (Ok New) = (count < MOST_SEGMENTS) × (length old < MOST_FILES) × HasFileMore article text old new
 AddsFile article text count old new (Ok Repeat) = ⊥
 AddsFile article text count old new (Ok NoCount) = ⊥
 AddsFile article text count old new (Err Memory) = new ≡ old
-AddsFile article text count old new (Err Segments) = (262144 ≤ count) × (new ≡ old)
-AddsFile article text count old new (Err Files) = (count < 262144) × (9999 ≤ length old) × (new ≡ old)
+AddsFile article text count old new (Err Segments) = (MOST_SEGMENTS ≤ count) × (new ≡ old)
+AddsFile article text count old new (Err Files) = (count < MOST_SEGMENTS) × (MOST_FILES ≤ length old) × (new ≡ old)
 
 -- an article begins a file
 pub record BeginsFile {Z : Type 0} (article : Counted) (text : List ℕ) (count : ℕ) (old new : List (Vec ℕ Z × Draft)) (result : Result Added GroupError) : Type 0 where

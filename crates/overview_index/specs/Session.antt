@@ -1,18 +1,15 @@
 -- The session of an index: one link, and what its replies tell of a newsgroup (RFC 3977, 6.1.1 and 8.3).
-use Rattle.std.specs.Prelude.{◌≡◌, ◌≢◌, ℕ, suc, zero, ◌+◌, ◌-◌, ◌/◌, ◌==◌, ◌||◌, ◌≤◌, ◌<◌, ◌⊎◌, min, max, Bool, true, false, not, is_some, if◌then◌else◌, List, [], ◌∷◌, ◌++◌, length, map, take, drop, Option, Some, Result, Ok, Err, ⊤}
+use Rattle.std.specs.Prelude.{◌≡◌, ◌≢◌, ℕ, suc, zero, ◌+◌, ◌-◌, ◌/◌, ◌==◌, ◌||◌, ◌≤◌, ◌<◌, ◌⊎◌, min, max, Bool, true, false, not, is_some, if◌then◌else◌, List, [], ◌∷◌, ◌++◌, length, map, take, Option, Some, Result, Ok, Err, ⊤}
 use Rattle.std.specs.List.{AllByRecursion, count_by, filter_map, flat_map}
 use Rattle.std.specs.Result.{result_ok}
-use Rattle.ub_base.specs.Causes.{Rose, BlamesNamed}
-use Rattle.ub_base.specs.declared.blame.Blame.{Blame}
-use Rattle.ub_base.specs.declared.blame.Blame.TheVariants as blames
-use Rattle.ub_base.specs.declared.links.LinkEvent.{LinkEvent}
+use Rattle.io_traits.specs.declared.links.LinkEvent.{LinkEvent}
 use Rattle.nntp_lines.specs.Command.{crlf, group_line, over_line}
 use Rattle.nntp_lines.specs.GroupReply.{group_of}
 use Rattle.nntp_lines.specs.declared.group.GroupReply.{GroupReply}
 use Rattle.nntp_lines.specs.declared.login.Login.{Login}
 use Rattle.nntp_lines.specs.declared.why.Why.{Why}
 use Rattle.link_dialog.specs.declared.awaited.Awaited.TheVariants.{Group, Over as TheOver}
-use Rattle.link_dialog.specs.Dialog.{Message, message_of, login_messages}
+use Rattle.link_dialog.specs.Dialog.{Message, message_of, answers_of}
 use Rattle.link_dialog.specs.Replies.{Reply}
 use Rattle.link_dialog.specs.Talk.{Start, Ends, Talked, quit_message}
 use Rattle.overview_lines.specs.Count.{count_of}
@@ -25,6 +22,7 @@ use Rattle.overview_index.specs.declared.added.GroupError.TheVariants as group_e
 use Rattle.overview_index.specs.declared.session.Indexed.{Indexed}
 use Rattle.overview_index.specs.declared.session.IndexError.{IndexError}
 use Rattle.overview_index.specs.declared.session.IndexError.TheVariants as error
+use Rattle.limits.specs.declared.TheConstants.{MOST_FILES, MOST_SEGMENTS}
 
 -- what is asked: the articles of a newsgroup from a number to a number, over a link that bears so many quiet receives
 pub record Query : Type 0 where
@@ -90,10 +88,6 @@ is_skipped line = is_skipped_at (over_of line)
 abbrev pub skipped_in : List (List ℕ) → ℕ
 skipped_in lines = count_by is_skipped lines
 
--- the replies to the messages behind the login, in order
-abbrev pub answers_of : Option Login → List Reply → List Reply
-answers_of login replies = drop (1 + length (login_messages login replies)) replies
-
 -- The newsgroup was chosen, and these are replies to OVER behind that, after each of which the next range may be asked.
 pub record Overview (q : Query) (login : Option Login) (replies : List Reply) (group : GroupReply) (overs : List Reply) : Type 0 where
   pub chosen : Reply
@@ -146,7 +140,7 @@ WasRefused q start now code = GroupWasRefused q start now code ⊎ OverWasRefuse
 
 -- the lines pass no limit of an index
 abbrev pub FitAnIndex : List Over → Type 0
-FitAnIndex lines = (segments_in lines ≤ 262144) × (files_in lines ≤ 9999)
+FitAnIndex lines = (segments_in lines ≤ MOST_SEGMENTS) × (files_in lines ≤ MOST_FILES)
 
 -- a line would pass a limit of the index: those before it don't; the reply that it came by is the last that was awaited
 pub record WasFilled (q : Query) (start : Start) (now : Option (List LinkEvent)) (reason : GroupError) : Type 0 where
@@ -204,8 +198,7 @@ IndexEnds q start now (Err (error.Refused code)) = WasRefused q start now code
 IndexEnds q start now (Err (error.Over reason)) = WasOver q start now reason
 IndexEnds q start now (Err (error.Full reason)) = (reason ≢ group_error.Memory) × WasFilled q start now reason
 
--- that no link was opened comes only where the opening failed
-abbrev pub NoLinkHasCause : {T : Type 0} → (before now : ℕ) → (blame_before blame_now : Option (Option Blame)) → List ℕ → Result T IndexError → Type 0
-NoLinkHasCause before now blame_before blame_now address (Err error.NoLink) =
-    Rose before now × BlamesNamed {T = ℕ} {E = ℕ} blame_before blame_now (blames.Open address) (Err 0)
-NoLinkHasCause before now blame_before blame_now address other = ⊤
+-- a fact where no link was opened
+abbrev pub OnNoLink : {T : Type 0} → Result T IndexError → Type 0 → Type 0
+OnNoLink (Err error.NoLink) fact = fact
+OnNoLink other fact = ⊤

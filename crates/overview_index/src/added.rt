@@ -1,7 +1,7 @@
 // What becomes of a line that is added to an index.
 ghost use Rattle.std.specs.Prelude.{◌≡◌};
 
-use ub_base::Memory;
+use lists::Memory;
 
 /// What a line of an overview brought to the index.
 #[derive(Clone, Copy, Debug, PartialEq, Eq)]

@@ -8,10 +8,10 @@ ghost use Rattle.overview_index.specs.Asking.{AddsLines, Tallies};
 
 use crate::{Added, GroupError, Grouper};
 use dot_blocks::split_block;
+use lists::{Bytes, Lines, Memory};
 use nntp_lines::GroupName;
 use overview_lines::read_over;
 use std::alloc::Global;
-use ub_base::{Bytes, Lines, Memory};
 
 // Where one overview after the other is heard, and what was made of their lines.
 #[derive(Drop)]

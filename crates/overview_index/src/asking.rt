@@ -8,9 +8,10 @@ ghost use Rattle.overview_index.specs.Session.{Query};
 ghost use Rattle.overview_index.specs.Asking.{AskedKeepsLive, Begins, ChooseEnds, ComesOnLink, IsAsked, KeepsLiveIf, StandsAt};
 
 use crate::IndexError;
+use io_traits::Links;
 use link_dialog::{Answer, Awaited, Dialog, GroupAnswer};
+use lists::Bytes;
 use nntp_lines::{Command, GroupName, GroupReply, Why, write_command};
-use ub_base::{Bytes, Links};
 
 // What is said of a newsgroup that was chosen, and whether the link is live behind that.
 #[derive(Clone, Copy)]
@@ -33,8 +34,8 @@ pub(crate) enum Asked {
 // Says GROUP. Where that is refused it says QUIT.
 pub(crate) fn choose<L: Links>(
     dialog: Dialog,
-    group: &GroupName,
     links: &mut L,
+    group: &GroupName,
 ) -> Result<Chosen, IndexError>
     requires { slice_get (L.live links.old) (link_of_dialog dialog) ≡ Some true }
     ensures faults { L.faults links.old ≤ L.faults links.new }
@@ -63,11 +64,11 @@ pub(crate) fn choose<L: Links>(
 // Says OVER for a range, and hears its reply. Where that is refused it says QUIT.
 pub(crate) fn ask<L: Links>(
     dialog: Dialog,
+    links: &mut L,
     first: u64,
     last: u64,
     buf: &mut [u8],
     block: &mut Bytes,
-    links: &mut L,
 ) -> Asked
     requires live { slice_get (L.live links.old) (link_of_dialog dialog) ≡ Some true }
     requires order { first ≤ last }
@@ -108,7 +109,7 @@ pub(crate) fn ask<L: Links>(
 }
 
 // Says QUIT where the link is live.
-pub(crate) fn quit<L: Links>(dialog: Dialog, live: bool, links: &mut L)
+pub(crate) fn quit<L: Links>(dialog: Dialog, links: &mut L, live: bool)
     requires { live ≡ true → slice_get (L.live links.old) (link_of_dialog dialog) ≡ Some true }
     ensures faults { L.faults links.old ≤ L.faults links.new }
     ensures quits { (start : Start) (messages : List Message) (replies : List Reply) →

@@ -5,14 +5,12 @@ ghost use Rattle.overview_index.specs.Draft.{AddsArticle, IsBegunBy, article_in,
 ghost use Rattle.overview_index.specs.Group.{segment_of};
 
 use crate::{Added, GroupError};
+use limits::MOST_SEGMENTS;
+use lists::{Bytes, List, Memory, bytes_of};
 use nzb_index::{FileEntry, Segment};
 use overview_lines::{Count, OverLine, read_date};
 use std::alloc::Global;
 use std::collections::BTreeMap;
-use ub_base::{Bytes, List, Memory};
-
-/// How many segments an index may have.
-pub(crate) const MOST_SEGMENTS: u32 = 262_144;
 
 /// A file: what its first article says of it, and its segments by their numbers.
 #[derive(Drop)]
@@ -103,12 +101,4 @@ fn segments_of(alloc: Global, segments: BTreeMap<u32, Segment>) -> Result<List<S
         list.push(segment)?;
     }
     Ok(list)
-}
-
-fn bytes_of(alloc: Global, text: &[u8]) -> Result<Bytes, Memory>
-    ensures { IfOk result (λ bytes. bytes ≡ text.now) }
-{
-    let mut bytes = Bytes::new(alloc);
-    bytes.extend(text)?;
-    Ok(bytes)
 }

@@ -5,18 +5,17 @@ ghost use Rattle.overview_lines.specs.OverLine.{IsOver, over_in};
 ghost use Rattle.overview_index.specs.Draft.{article_in};
 ghost use Rattle.overview_index.specs.Group.{key_of};
 ghost use Rattle.overview_index.specs.Grouper.{AddsFile, Answers, IsIndexOf, IsValidIndexOf, PutsArticle, StandsFor, count_behind, is_spelled, spelled};
+ghost use Rattle.limits.specs.declared.TheConstants.{MOST_SEGMENTS};
 
-use crate::draft::{Draft, MOST_SEGMENTS};
+use crate::draft::Draft;
 use crate::{Added, GroupError};
 use indexmap::IndexMap;
+use limits::{MOST_FILES, MOST_SEGMENTS};
+use lists::{Bytes, List, Memory};
 use nntp_lines::GroupName;
 use nzb_index::Index;
 use overview_lines::{Count, OverLine, count_of};
 use std::alloc::Global;
-use ub_base::{Bytes, List, Memory};
-
-// How many files an index may have.
-const MOST_FILES: usize = 9_999;
 
 /// The files of a newsgroup whose articles came so far, line by line.
 #[derive(Drop)]
@@ -81,7 +80,7 @@ impl Grouper {
         if self.count >= MOST_SEGMENTS {
             return Err(GroupError::Segments);
         }
-        if self.files.len() >= MOST_FILES {
+        if self.files.len() >= MOST_FILES as usize {
             return Err(GroupError::Files);
         }
         let draft = Draft::new(self.alloc, line, count)?;
@@ -121,7 +120,7 @@ impl Grouper {
 
 // How many segments there are, once a line has brought this.
 fn count_behind(count: u32, added: Added) -> u32
-    requires { added ≡ Added.New → count < 262144 }
+    requires { added ≡ Added.New → count < MOST_SEGMENTS }
     ensures { result ≡ count_behind count added }
 {
     match added {

@@ -3,19 +3,19 @@ ghost use Rattle.std.specs.Prelude.{◌≡◌, ◌≤◌, ◌<◌, ◌+◌, ◌-
 ghost use Rattle.std.specs.Option.{option_copied};
 ghost use Rattle.nntp_lines.specs.Command.{IsArticleNumber};
 ghost use Rattle.nntp_lines.specs.declared.group.GroupReply.{GroupReply as GroupNumbers};
-ghost use Rattle.link_dialog.specs.Talk.{Start, link_of_dialog};
+ghost use Rattle.link_dialog.specs.Talk.{OpeningFailed, Start, link_of_dialog};
 ghost use Rattle.nzb_index.specs.Canonical.{IsValidIndex};
-ghost use Rattle.overview_index.specs.Session.{Query, IndexEnds, NoLinkHasCause, ranges_in};
+ghost use Rattle.overview_index.specs.Session.{Query, IndexEnds, OnNoLink, ranges_in};
 ghost use Rattle.overview_index.specs.Asking.{error_of, ComesOnLink, KeepsLiveIf, RangeEnds, RangesEnd, UnderWay};
 
 use crate::GroupError;
 use crate::adding::{Desk, add_overview};
 use crate::asking::{Asked, Chosen, ask, choose, quit};
+use io_traits::Links;
 use link_dialog::{Dialog, NotOpen};
 use nntp_lines::{GroupName, Login, Why};
 use nzb_index::Index;
 use std::alloc::Global;
-use ub_base::Links;
 
 // How many numbers of articles are asked for at once.
 const RANGE: u64 = 10_000;
@@ -68,7 +68,7 @@ pub fn run_index<L: Links>(
     // What was said and heard, and the index of it; and each error comes only where its cause stands.
     ensures ends { IndexEnds (record { group = group.now; first = first; last = last; patience = patience })
         (record { before = L.trace links.old; address = address.now; login = option_copied login.entry }) (L.trace links.new) result }
-    ensures cause { NoLinkHasCause (L.faults links.old) (L.faults links.new) (L.blame links.old) (L.blame links.new) address.now result }
+    ensures cause { OnNoLink result (OpeningFailed (L.faults links.old) (L.faults links.new) (L.blame links.old) (L.blame links.new) address.now) }
     ensures faults { L.faults links.old ≤ L.faults links.new }
 
     // Whatever the links tell, the index may be written as a text that reads back.
@@ -83,11 +83,11 @@ pub fn run_index<L: Links>(
         Err(NotOpen::NoLink) => return Err(IndexError::NoLink),
         Err(NotOpen::Over(why)) => return Err(IndexError::Over(why)),
     };
-    let chosen = match choose(dialog, group, links) {
+    let chosen = match choose(dialog, links, group) {
         Ok(chosen) => chosen,
         Err(why) => return Err(why),
     };
-    match index_ranges(alloc, dialog, chosen, first, last, &mut desk, links) {
+    match index_ranges(alloc, dialog, links, chosen, first, last, &mut desk) {
         Ok(()) => {}
         Err(why) => return Err(why),
     }
@@ -102,11 +102,11 @@ pub fn run_index<L: Links>(
 fn index_ranges<L: Links>(
     alloc: Global,
     dialog: Dialog,
+    links: &mut L,
     chosen: Chosen,
     first: u64,
     last: u64,
     desk: &mut Desk,
-    links: &mut L,
 ) -> Result<(), IndexError>
     requires live { chosen.live ≡ true → slice_get (L.live links.old) (link_of_dialog dialog) ≡ Some true }
     requires numbers { IsArticleNumber last }
@@ -125,12 +125,12 @@ fn index_ranges<L: Links>(
         }
         let from = least + done * RANGE;
         let to = most.min(from + (RANGE - 1));
-        match index_range(alloc, dialog, from, to, &mut buf, desk, links) {
+        match index_range(alloc, dialog, links, from, to, &mut buf, desk) {
             Ok(still) => live = still,
             Err(why) => return Err(why),
         }
     }
-    quit(dialog, live, links);
+    quit(dialog, links, live);
     Ok(())
 }
 
@@ -149,11 +149,11 @@ fn range_count(least: u64, most: u64) -> u64
 fn index_range<L: Links>(
     alloc: Global,
     dialog: Dialog,
+    links: &mut L,
     from: u64,
     to: u64,
     buf: &mut [u8],
     desk: &mut Desk,
-    links: &mut L,
 ) -> Result<bool, IndexError>
     requires live { slice_get (L.live links.old) (link_of_dialog dialog) ≡ Some true }
     requires order { from ≤ to }
@@ -165,11 +165,11 @@ fn index_range<L: Links>(
     ensures ends { (q : Query) (start : Start) (group : GroupNumbers) (done : ℕ) → slice_get (ranges_in q group) done ≡ Some (record { first = from; last = to }) →
         UnderWay q start (L.trace links.old) dialog group desk.old done true → RangeEnds q start (L.trace links.new) dialog group desk.new (done + 1) result }
 {
-    match ask(dialog, from, to, buf, &mut desk.block, links) {
+    match ask(dialog, links, from, to, buf, &mut desk.block) {
         Asked::Heard { code, kept, live } => match add_overview(alloc, code, kept, desk) {
             Ok(()) => Ok(live),
             Err(why) => {
-                quit(dialog, live, links);
+                quit(dialog, links, live);
                 Err(index_error(why))
             }
         },

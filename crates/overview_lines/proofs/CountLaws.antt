@@ -6,9 +6,9 @@ use Rattle.std.specs.List.{list_all}
 use Rattle.std.specs.Option.{option_or}
 use Rattle.std.proofs.lemmas.Bool.{and_parts, eq-eqb, eqb-true, le-leb, leb-false, leb-true, lt-ltb, ltb-true}
 use Rattle.std.proofs.Math.Seq.{drop-append_seam, get_or-append_seam, take-append_seam}
-use Rattle.ub_base.specs.Numbers.{decimal_of}
+use Rattle.numbers.specs.Numbers.{decimal_of, Numbered, numbered_of}
 use Rattle.overview_lines.specs.declared.count.Count.{Count}
-use Rattle.overview_lines.specs.Count.{IsCount, IsLastCount, Numbered, count_at, count_of, digits_len, last_count, number_before, number_of, numbered_of, with_part, with_total}
+use Rattle.overview_lines.specs.Count.{IsCount, IsLastCount, count_at, count_of, digits_len, last_count, number_before, number_of, with_part, with_total}
 use Rattle.overview_lines.proofs.Digits.{few_value}
 use Rattle.overview_lines.proofs.Fronts.{behind_seam, cut_there, prefix_seam}
 

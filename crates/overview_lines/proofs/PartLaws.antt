@@ -9,7 +9,7 @@ use Rattle.std.proofs.lemmas.Bool.{and_from, and_parts, eq-eqb, eqb-true, le-leb
 use Rattle.std.proofs.lemmas.Bool.Decides.{nat_tests}
 use Rattle.std.proofs.lemmas.List.Folds.{list_all-append}
 use Rattle.std.proofs.lemmas.Slice.Eq.{bytes_eq-Decides}
-use Rattle.ub_base.specs.Numbers.{decimal_of}
+use Rattle.numbers.specs.Numbers.{decimal_of}
 use Rattle.overview_lines.specs.Date.{is_space}
 use Rattle.overview_lines.specs.DateParts.{IsClock, IsMonth, january, february, march, april, may, june, july, august, september, october, november, december, IsNumber, IsTime, to_minute, to_second, IsZone, east, west, utc, Zone, clock_of, day_of, month_of, time_of, two_digits, with_clock, with_hour, with_minute, with_second, with_sign, year_of, zone_of}
 use Rattle.overview_lines.proofs.Digits.{few_value, within_is, within_parts}

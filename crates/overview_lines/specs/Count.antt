@@ -4,7 +4,7 @@ use Rattle.std.specs.Prelude.{◌≡◌, ℕ, ◌+◌, ◌-◌, ◌≤◌, ◌&&
 use Rattle.std.specs.Char.{is_ascii_digit}
 use Rattle.std.specs.List.{prefix_len}
 use Rattle.std.specs.Option.{option_or}
-use Rattle.ub_base.specs.Numbers.{decimal_of}
+use Rattle.numbers.specs.Numbers.{decimal_of, Numbered, numbered_of}
 use Rattle.overview_lines.specs.declared.count.Count.{Count}
 
 -- the number that 1 to 7 decimal digits say; leading zeros may stand
@@ -30,15 +30,6 @@ pub record IsLastCount (subject : List ℕ) (count : Count) : Type 0 where
   pub last : (other : Count) → IsCount subject other → other.start ≤ count.start
 
 -- ---- the reading of a subject
-
--- a number that a text begins with, and what stands behind the byte after it
-pub record Numbered : Type 0 where
-  pub number : ℕ
-  pub behind : List ℕ
-
-abbrev pub numbered_of : Option ℕ → List ℕ → Option Numbered
-numbered_of None behind = None
-numbered_of (Some number) behind = Some (record { number = number; behind = behind })
 
 -- how many digits a text begins with
 abbrev pub digits_len : List ℕ → ℕ

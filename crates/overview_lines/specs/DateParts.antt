@@ -4,7 +4,7 @@ use Rattle.std.specs.Prelude.{◌≡◌, ℕ, ◌+◌, ◌*◌, ◌≤◌, ◌&&
 use Rattle.std.specs.Char.{is_ascii_alphabetic}
 use Rattle.std.specs.List.{list_all}
 use Rattle.std.specs.Str.{bytes_eq}
-use Rattle.ub_base.specs.Numbers.{decimal_of, within}
+use Rattle.numbers.specs.Numbers.{decimal_of, within}
 
 -- one or more spaces
 pub record AreSpaces (text : List ℕ) : Type 0 where

@@ -2,7 +2,7 @@
 -- this project's, and so is which fields are read.
 use Rattle.std.specs.Prelude.{◌≡◌, ℕ, ◌≤◌, ◌<◌, Bool, not, ◌==◌, nat_le, List, [], ◌∷◌, ◌++◌, length, Option, Some, None, IsSome, IsTrue, IsFalse, All}
 use Rattle.std.specs.List.{list_all, join_with_byte}
-use Rattle.ub_base.specs.Numbers.{decimal_of, within}
+use Rattle.numbers.specs.Numbers.{decimal_of, within}
 use Rattle.nntp_lines.specs.MessageId.{IsMessageId}
 use Rattle.overview_lines.specs.declared.over.OverLine.{OverLine}
 use Rattle.overview_lines.specs.declared.over.OverFault.{OverFault}

@@ -2,7 +2,7 @@
 ghost use Rattle.std.specs.Prelude.{◌≡◌, ◌<◌, ◌≤◌, drop, length, IfNone, IfSome, MatchOption, Some, None};
 ghost use Rattle.overview_lines.specs.Count.{IsCount, IsLastCount, count_at, count_of, digits_len, number_before, number_of};
 
-use ub_base::read_dec;
+use numbers::read_dec;
 
 // The greatest number in a count.
 const MOST: u64 = 9_999_999;

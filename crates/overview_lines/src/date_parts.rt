@@ -2,7 +2,7 @@
 ghost use Rattle.std.specs.Prelude.{◌≡◌, ◌≤◌, ◌+◌, IfSome, MatchOption, Some, None};
 ghost use Rattle.overview_lines.specs.DateParts.{clock_of, day_of, month_of, time_of, two_digits, year_of, zone_of};
 
-use ub_base::read_dec;
+use numbers::read_dec;
 
 // How many seconds a zone is ahead of UTC, and how many behind it; one of them is 0.
 #[derive(Clone, Copy)]

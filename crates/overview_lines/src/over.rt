@@ -5,7 +5,7 @@ ghost use Rattle.overview_lines.specs.OverLine.{HasOverFault, IsIdField, IsOver,
 ghost use Rattle.overview_lines.specs.OverReading.{fields_in, fields_of, id_of, over_of, over_said};
 
 use nntp_lines::MessageId;
-use ub_base::read_dec;
+use numbers::read_dec;
 
 // The greatest length of a line in bytes, without CRLF.
 const MOST: usize = 4096;

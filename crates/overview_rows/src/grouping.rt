@@ -1,8 +1,8 @@
 // Articles that are taken together to files.
 use crate::grouping_fixtures::{add_line, file_line, grouper_of, part_line};
+use lists::Bytes;
 use overview_index::{Added, GroupError};
 use std::test::Fail;
-use ub_base::Bytes;
 
 #[test]
 fn four_articles_are_one_file(rt: HostRuntime) -> Result<(), Fail> {

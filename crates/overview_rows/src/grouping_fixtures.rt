@@ -1,10 +1,11 @@
 // What the tests of groupers hand in.
+use lists::{Bytes, Memory};
 use nntp_lines::GroupName;
+use numbers::write_dec;
 use overview_index::{Added, GroupError, Grouper};
 use overview_lines::read_over;
 use std::alloc::Global;
 use std::test::Fail;
-use ub_base::{Bytes, Memory, write_dec};
 
 /// No files yet, of the newsgroup `a.b`.
 pub(crate) fn grouper_of(alloc: Global) -> Result<Grouper, Fail> {

@@ -1,4 +1,4 @@
-//! The worked cases of overviews: counts in subjects, dates and lines.
+//! The worked cases of overviews: counts in subjects, dates and lines, and the index of a newsgroup, over links in memory.
 #![tactic(auto)]
 
 #[cfg(test)]
@@ -6,8 +6,14 @@ mod counts;
 #[cfg(test)]
 mod dates;
 #[cfg(test)]
+mod endings;
+#[cfg(test)]
 mod grouping;
 #[cfg(test)]
 mod grouping_fixtures;
 #[cfg(test)]
+mod index_fixtures;
+#[cfg(test)]
 mod lines;
+#[cfg(test)]
+mod sessions;

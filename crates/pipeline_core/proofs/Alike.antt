@@ -1,9 +1,10 @@
 -- What a change leaves of a segment that it doesn't touch.
 use Rattle.std.proofs.Common.{◌≡◌, ◌≢◌, ◌+◌, zero, suc, ℕ, Bool, true, false, not, ◌&&◌, ◌||◌, List, [], ◌∷◌, ◌++◌, Option, Some, None, length, drop, refl, ap, sym, ◌∙◌, arith, set}
 use Rattle.std.specs.Prelude.{slice_get, ◌==◌}
+use Rattle.lists.specs.Edit.{edit_at}
 use Rattle.pipeline_core.specs.SegmentAt.{SegmentAt}
 use Rattle.pipeline_core.specs.LinkAt.{LinkAt}
-use Rattle.pipeline_core.specs.Links.{has_link_left, holder, times, times_asked, edit_at, with_end}
+use Rattle.pipeline_core.specs.Links.{has_link_left, holder, times, times_asked, with_end}
 use Rattle.pipeline_core.specs.PipelineAt.{Pipeline}
 use Rattle.pipeline_core.specs.Searches.{all_from, is_done_with, is_arrived_at, is_answered_at, is_below, lets_pass}
 use Rattle.pipeline_core.specs.Pipeline.{is_spent, is_turn, state_by, is_open, can_be_asked, segment_state}

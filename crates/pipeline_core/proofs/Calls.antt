@@ -5,17 +5,19 @@ use Rattle.std.proofs.Math.ListN.{length-map, length-replicate}
 use Rattle.std.proofs.lemmas.Bool.Decides.{nat_tests}
 use Rattle.std.proofs.lemmas.Bool.{cases_lt}
 use Rattle.std.proofs.lemmas.Option.{slice_get_within}
+use Rattle.lists.specs.Edit.{edit_at}
 use Rattle.pipeline_core.specs.SegmentAt.{SegmentAt}
 use Rattle.pipeline_core.specs.LinkAt.{LinkAt}
-use Rattle.pipeline_core.specs.Links.{times, times_asked, holder, holder_from, with_asked, without_oldest, with_end, edit_at, fresh_link}
+use Rattle.pipeline_core.specs.Links.{times, times_asked, holder, holder_from, with_asked, without_oldest, with_end, fresh_link}
 use Rattle.pipeline_core.specs.PipelineAt.{Pipeline}
-use Rattle.pipeline_core.specs.Searches.{is_arrived_at, forgotten_at, without_link}
+use Rattle.pipeline_core.specs.Searches.{is_arrived_at, is_answered_at, forgotten_at, without_link}
 use Rattle.pipeline_core.specs.declared.state.Outcome.{Outcome}
-use Rattle.pipeline_core.specs.Pipeline.{unanswered, with_links, with_outcome, server_on, server_of, after_reply}
-use Rattle.pipeline_core.specs.Sound.{IsExclusive, IsLimited, IsSound}
+use Rattle.pipeline_core.specs.Pipeline.{unanswered, with_arrival, with_links, with_outcome, server_on, server_of, after_reply, after_settling}
+use Rattle.pipeline_core.specs.Sound.{AreIdle, IsExclusive, IsLimited, IsSound}
 use Rattle.pipeline_core.proofs.OnePlace.{get-set_other, get-set_same, same_or_not}
 use Rattle.pipeline_core.proofs.Exclusive.{set-edit, times-append, times-set, no_holder, none_held, holder-kept, holder-new, holder-here, one_of_all}
 use Rattle.pipeline_core.proofs.Free.{IsNext}
+use Rattle.limits.specs.declared.TheConstants.{MOST_SEGMENTS}
 
 limited-set : (links : List LinkAt) (segments after : List SegmentAt) (levels : List ℕ) (depth i : ℕ) (old new : LinkAt) → IsLimited links segments levels depth → slice_get links i ≡ Some old → new.server ≡ old.server → length new.asked ≤ depth → length after ≡ length segments → IsLimited (set links i new) after levels depth
 limited-set links segments after levels depth i old new limited is server few same = record {
@@ -34,9 +36,29 @@ limited-set links segments after levels depth i old new limited is server few sa
   ];
 }
 
+-- what is outstanding on no link was answered by its server, and what is outstanding on the changed one wasn't
+unanswered-set : (links : List LinkAt) (segments after : List SegmentAt) (i : ℕ) (old new : LinkAt) → ((k s : ℕ) (link : LinkAt) → k ≢ i → slice_get links k ≡ Some link → 0 < times s link.asked → is_answered_at link.server (slice_get after s) ≡ false) → slice_get links i ≡ Some old → ((s : ℕ) → 0 < times s new.asked → is_answered_at new.server (slice_get after s) ≡ false) → (k s : ℕ) (link : LinkAt) → slice_get (set links i new) k ≡ Some link → 0 < times s link.asked → is_answered_at link.server (slice_get after s) ≡ false
+unanswered-set links segments after i old new others is own k s link read held = elim (same_or_not k i) [
+  | inl e ↦ (let there : slice_get (set links i new) i ≡ Some link = ap (λ n. slice_get (set links i new) n) (sym e) ∙ read in
+      let found : Some new ≡ Some link = sym (get-set_same links i new old is) ∙ there in
+      let this : new ≡ link = cc in
+      subst (λ (l : LinkAt). 0 < times s l.asked → is_answered_at l.server (slice_get after s) ≡ false) this (own s) held)
+  | inr other ↦ others k s link other (sym (get-set_other links i k new other) ∙ read) held
+]
+
+-- a link that is over still holds nothing, and so does the changed one, where it is over
+idle-set : (links : List LinkAt) (i : ℕ) (old new : LinkAt) → AreIdle links → slice_get links i ≡ Some old → (new.over ≡ true → new.asked ≡ []) → AreIdle (set links i new)
+idle-set links i old new idle is own k link read over = elim (same_or_not k i) [
+  | inl e ↦ (let there : slice_get (set links i new) i ≡ Some link = ap (λ n. slice_get (set links i new) n) (sym e) ∙ read in
+      let found : Some new ≡ Some link = sym (get-set_same links i new old is) ∙ there in
+      let this : new ≡ link = cc in
+      subst (λ (l : LinkAt). l.over ≡ true → l.asked ≡ []) this own over)
+  | inr other ↦ idle k link (sym (get-set_other links i k new other) ∙ read) over
+]
+
 -- a link changes, and what is outstanding on it doesn't
-pub sound-same : (links : List LinkAt) (segments : List SegmentAt) (holders : List (Option ℕ)) (levels : List ℕ) (depth i : ℕ) (old new : LinkAt) → IsSound links segments holders levels depth → slice_get links i ≡ Some old → new.server ≡ old.server → new.asked ≡ old.asked → IsSound (set links i new) segments holders levels depth
-sound-same links segments holders levels depth i old new sound is server asked =
+pub sound-same : (links : List LinkAt) (segments : List SegmentAt) (holders : List (Option ℕ)) (levels : List ℕ) (depth i : ℕ) (old new : LinkAt) → IsSound links segments holders levels depth → slice_get links i ≡ Some old → new.server ≡ old.server → new.asked ≡ old.asked → new.over ≡ old.over → IsSound (set links i new) segments holders levels depth
+sound-same links segments holders levels depth i old new sound is server asked end =
     let stays : (s : ℕ) → times_asked (set links i new) s ≡ times_asked links s = λ s.
     (let sums : times_asked (set links i new) s + times s old.asked ≡ times_asked links s + times s new.asked = times-set links i s old new is in
     let same : times s new.asked ≡ times s old.asked = ap (times s) asked in omega arith) in
@@ -47,6 +69,9 @@ sound-same links segments holders levels depth i old new sound is server asked =
         none_arrived = λ s here. stays s ∙ sound.exclusive.none_arrived s here;
         within = λ s past. stays s ∙ sound.exclusive.within s past;
       };
+      unanswered = unanswered-set links segments segments i old new (λ k s link other. sound.unanswered k s link) is
+          (λ s held. let same : times s new.asked ≡ times s old.asked = ap (times s) asked in ap (λ (v : ℕ). is_answered_at v (slice_get segments s)) server ∙ sound.unanswered i s old is (omega (arith, same, held)));
+      idle = idle-set links i old new sound.idle is (λ over. asked ∙ sound.idle i old is (sym end ∙ over));
       limited = limited-set links segments segments levels depth i old new sound.limited is server (rw asked was.1) refl;
       held = record {
         same = sound.held.same;
@@ -81,6 +106,12 @@ sound-next p holders i k old sound is next =
         ];
         within = λ s past. there s (λ e. absurd (omega (arith, e, next.below))) ∙ sound.exclusive.within s past;
       };
+      unanswered = unanswered-set p.links p.segments p.segments i old new (λ j s link other. sound.unanswered j s link) is
+          (λ s held. elim (same_or_not s k) [
+            | inl e ↦ ap (λ n. is_answered_at old.server (slice_get p.segments n)) e ∙ next.not_answered
+            | inr other ↦ sound.unanswered i s old is (omega (arith, more s, no_time k s other, held))
+          ]);
+      idle = idle-set p.links i old new sound.idle is (λ over. let no_way : true ≡ false = sym over ∙ next.live in cc);
       limited = limited-set p.links p.segments p.segments p.levels p.depth i old new sound.limited is refl (rw length-append (omega (arith, next.room))) refl;
       held = record {
         same = length-set holders k (Some i) ∙ sound.held.same;
@@ -125,6 +156,11 @@ sound-reply links segments holders levels depth i k old was now sound is first t
         ];
         within = λ s past. let far : length segments ≤ s = rw (← length-set segments k now) past in elsewhere s (λ e. absurd (omega (arith, e))) ∙ sound.exclusive.within s far;
       };
+      unanswered = λ j s link read held. elim (same_or_not s k) [
+        | inl e ↦ absurd (let most = one_of_all (set links i new) j s link read in let none : times_asked (set links i new) s ≡ 0 = ap (times_asked (set links i new)) e ∙ here in omega (arith, most, none, held))
+        | inr other ↦ ap (is_answered_at link.server) (get-set_other segments k s now other) ∙ unanswered-set links segments segments i old new (λ j s link differ. sound.unanswered j s link) is (λ s held. sound.unanswered i s old is (omega (arith, less s, held))) j s link read held
+      ];
+      idle = idle-set links i old new sound.idle is (λ over. ap (λ (xs : List ℕ). drop 1 xs) (sound.idle i old is over));
       limited = limited-set links segments (set segments k now) levels depth i old new sound.limited is refl (omega (arith, fits.1)) (length-set segments k now);
       held = record {
         same = length-set holders k None ∙ sound.held.same ∙ sym (length-set segments k now);
@@ -180,6 +216,8 @@ sound-over links segments holders after levels depth i old sound is same each =
         none_arrived = λ s arrived. omega (arith, sums s, sound.exclusive.none_arrived s arrived);
         within = λ s past. omega (arith, sums s, sound.exclusive.within s past);
       };
+      unanswered = unanswered-set links segments segments i old new (λ j s link other. sound.unanswered j s link) is (λ s held. absurd (omega (arith, held)));
+      idle = idle-set links i old new sound.idle is (λ over. refl);
       limited = limited-set links segments segments levels depth i old new sound.limited is refl (omega arith) refl;
       held = record {
         same = same ∙ sound.held.same;
@@ -189,6 +227,38 @@ sound-over links segments holders after levels depth i old sound is same each =
           | inr few ↦ (let none : times s old.asked ≡ 0 = omega arith in
               ap (λ t. Some t) (forgotten_other i (holder links s) (λ e. absurd (omega (arith, held_at 0 links i s old is (e ∙ ap (λ n. Some n) (sym (zero-add i)))))) ∙ sym (holder-kept 0 links i s old new is (sym none))))
         ];
+      };
+    }
+
+-- a segment that no link holds has arrived
+pub sound-settling : (links : List LinkAt) (segments : List SegmentAt) (holders : List (Option ℕ)) (levels : List ℕ) (depth k : ℕ) (was : SegmentAt) → IsSound links segments holders levels depth → slice_get segments k ≡ Some was → holder links k ≡ None → IsSound links (set segments k (with_arrival was)) holders levels depth
+sound-settling links segments holders levels depth k was sound there unheld =
+    let now : SegmentAt = with_arrival was in
+    let free : times_asked links k ≡ 0 = none_held 0 links k unheld in
+    record {
+      exclusive = record {
+        once = sound.exclusive.once;
+        none_arrived = λ s arrived. elim (same_or_not s k) [
+          | inl e ↦ ap (times_asked links) e ∙ free
+          | inr other ↦ sound.exclusive.none_arrived s (sym (arrived-set segments k s was now there other) ∙ arrived)
+        ];
+        within = λ s past. sound.exclusive.within s (rw (← length-set segments k now) past);
+      };
+      unanswered = λ j s link read held. elim (same_or_not s k) [
+        | inl e ↦ absurd (let most = one_of_all links j s link read in let none : times_asked links s ≡ 0 = ap (times_asked links) e ∙ free in omega (arith, most, none, held))
+        | inr other ↦ ap (is_answered_at link.server) (get-set_other segments k s now other) ∙ sound.unanswered j s link read held
+      ];
+      idle = sound.idle;
+      limited = record {
+        few_servers = sound.limited.few_servers;
+        few_links = sound.limited.few_links;
+        few_segments = rw length-set sound.limited.few_segments;
+        small_depth = sound.limited.small_depth;
+        each = sound.limited.each;
+      };
+      held = record {
+        same = sound.held.same ∙ sym (length-set segments k now);
+        each = λ s below. sound.held.each s (rw (← length-set segments k now) below);
       };
     }
 
@@ -216,13 +286,20 @@ fresh_each (server ∷ rest) servers depth zero link each is =
     subst P same (low, omega arith)
 fresh_each (server ∷ rest) servers depth (suc k) link each is = fresh_each rest servers depth k link (λ j below. each (suc j) (omega arith)) is
 
-pub sound-start : (server_of_link levels : List ℕ) (n depth : ℕ) → length levels ≤ 16 → length server_of_link ≤ 64 → n ≤ 262144 → depth ≤ 32 → ((j : ℕ) → j < length server_of_link → slice_index server_of_link j < length levels) → IsSound (map fresh_link server_of_link) (replicate n unanswered) (replicate n None) levels depth
+fresh_idle : (servers : List ℕ) (k : ℕ) (link : LinkAt) → slice_get (map fresh_link servers) k ≡ Some link → link.asked ≡ []
+fresh_idle [] k link is = cc
+fresh_idle (server ∷ rest) zero link is = let same : fresh_link server ≡ link = cc in ap (λ (l : LinkAt). l.asked) (sym same)
+fresh_idle (server ∷ rest) (suc k) link is = fresh_idle rest k link is
+
+pub sound-start : (server_of_link levels : List ℕ) (n depth : ℕ) → length levels ≤ 16 → length server_of_link ≤ 64 → n ≤ MOST_SEGMENTS → depth ≤ 32 → ((j : ℕ) → j < length server_of_link → slice_index server_of_link j < length levels) → IsSound (map fresh_link server_of_link) (replicate n unanswered) (replicate n None) levels depth
 sound-start server_of_link levels n depth few_servers few_links few small each = record {
   exclusive = record {
     once = λ s. rw (no_times server_of_link s) (omega arith);
     none_arrived = λ s arrived. no_times server_of_link s;
     within = λ s past. no_times server_of_link s;
   };
+  unanswered = λ k s link read held. absurd (let most = one_of_all (map fresh_link server_of_link) k s link read in let none = no_times server_of_link s in omega (arith, most, none, held));
+  idle = λ k link read over. fresh_idle server_of_link k link read;
   limited = record {
     few_servers = few_servers;
     few_links = rw length-map few_links;
@@ -250,6 +327,11 @@ view-reply p i k outcome old was now is there made =
     ap (λ (s : SegmentAt). set p.segments k s) made ∙ set-edit p.segments k (with_outcome old.server outcome) was there ∙ ap (λ v. edit_at k (with_outcome v outcome) p.segments) (sym server) in
     ap (λ (ls : List LinkAt). record { links = ls; segments = set p.segments k now; levels = p.levels; depth = p.depth }) links
     ∙ ap (λ (ss : List SegmentAt). record { links = edit_at i without_oldest p.links; segments = ss; levels = p.levels; depth = p.depth }) segments
+
+-- a core in which a segment arrived that no link holds
+pub view-settling : (p : Pipeline) (k : ℕ) (was now : SegmentAt) → slice_get p.segments k ≡ Some was → now ≡ with_arrival was → record { links = p.links; segments = set p.segments k now; levels = p.levels; depth = p.depth } ≡ after_settling p k
+view-settling p k was now there made =
+    ap (λ (ss : List SegmentAt). record { links = p.links; segments = ss; levels = p.levels; depth = p.depth }) (ap (λ (s : SegmentAt). set p.segments k s) made ∙ set-edit p.segments k with_arrival was there)
 
 drop_whole : {A : Type 0} (xs : List A) → drop (length xs) xs ≡ []
 drop_whole [] = refl

@@ -99,6 +99,11 @@ pub next_found : (p : Pipeline) (i k : ℕ) (link : LinkAt) → slice_get p.link
 next_found p i k link read is =
     let both = chosen_from (may_ask p.depth link) (first_from (can_be_asked p link.server) 0 (length p.segments)) k (sym (ap (next_on p) read) ∙ is) in both.1
 
+unanswered_if : (open_one answered turn : Bool) → ((open_one && not answered) && turn) ≡ true → answered ≡ false
+unanswered_if true true turn is = cc
+unanswered_if true false turn is = refl
+unanswered_if false answered turn is = cc
+
 -- what is known of the next segment
 pub record IsNext (p : Pipeline) (link : LinkAt) (k : ℕ) : Type 0 where
   pub room : length link.asked < p.depth
@@ -106,6 +111,7 @@ pub record IsNext (p : Pipeline) (link : LinkAt) (k : ℕ) : Type 0 where
   pub below : k < length p.segments
   pub unheld : holder p.links k ≡ None
   pub not_arrived : is_arrived_at (slice_get p.segments k) ≡ false
+  pub not_answered : is_answered_at link.server (slice_get p.segments k) ≡ false
 
 room_by : (greeted over : Bool) (asked depth : ℕ) → (greeted && not over && nat_lt asked depth) ≡ true → asked < depth
 room_by true true asked depth may = cc
@@ -128,4 +134,13 @@ is_next p i k link read is =
       below = omega (arith, found.2);
       unheld = free.1;
       not_arrived = free.0;
+      not_answered = unanswered_if (is_open (segment_state p k)) (is_answered_at link.server (slice_get p.segments k)) (is_turn p link.server k) found.0;
     }
+
+below_by : (p : Pipeline) (i k : ℕ) (o : Option LinkAt) → slice_get p.links i ≡ o → next_segment p i ≡ Some k → k < length p.segments
+below_by p i k None read is = let none : next_segment p i ≡ None = ap (next_on p) read in let no_way : None ≡ Some k = sym none ∙ is in cc
+below_by p i k (Some link) read is = (is_next p i k link read is).below
+
+-- the next segment is one of the segments
+pub next_below : (p : Pipeline) (i k : ℕ) → next_segment p i ≡ Some k → k < length p.segments
+next_below p i k is = below_by p i k (slice_get p.links i) refl is

@@ -3,11 +3,12 @@ use Rattle.std.proofs.Common.{◌≡◌, ◌≢◌, ◌+◌, ◌<◌, inl, inr, 
 use Rattle.std.specs.Prelude.{slice_get, cond, nat_lt, ◌==◌, is_some}
 use Rattle.std.proofs.lemmas.Bool.Decides.{nat_tests}
 use Rattle.std.proofs.lemmas.Bool.{cases_lt}
+use Rattle.lists.specs.Edit.{edit_at}
 use Rattle.pipeline_core.specs.LinkAt.{LinkAt}
-use Rattle.pipeline_core.specs.Links.{may_ask, has_link_left, holder, holder_from, times, edit_at, with_asked}
+use Rattle.pipeline_core.specs.Links.{may_ask, has_link_left, holder, holder_from, times, with_asked, with_end}
 use Rattle.pipeline_core.specs.PipelineAt.{Pipeline}
 use Rattle.pipeline_core.specs.Searches.{all_from, first_from, is_done_with, is_arrived_at, is_answered_at, is_below, lets_pass}
-use Rattle.pipeline_core.specs.Pipeline.{is_spent, is_turn, state_by, is_open, can_be_asked, next_segment, next_on, after_next}
+use Rattle.pipeline_core.specs.Pipeline.{is_spent, is_turn, state_by, is_open, can_be_asked, next_segment, next_on, after_next, after_over, with_links}
 use Rattle.pipeline_core.proofs.Exclusive.{times-append}
 
 pub get-edit_other : {A : Type 0} (xs : List A) (i k : ℕ) (f : A → A) → k ≢ i → slice_get (edit_at i f xs) k ≡ slice_get xs k
@@ -83,3 +84,12 @@ on_stays p i k (Some link) none = asks_by p i k link (may_ask p.depth link) refl
 pub full_stays : (p : Pipeline) (i k j : ℕ) → j ≢ i → next_segment p j ≡ None → next_segment (after_next p i (Some k)) j ≡ None
 full_stays p i k j other none =
     ap (next_on (after_next p i (Some k))) (get-edit_other p.links i j (with_asked k) other) ∙ on_stays p i k (slice_get p.links j) none
+
+ended_after_asking : (links : List LinkAt) (i k : ℕ) → edit_at i with_end (edit_at i (with_asked k) links) ≡ edit_at i with_end links
+ended_after_asking [] i k = refl
+ended_after_asking (link ∷ links) zero k = refl
+ended_after_asking (link ∷ links) (suc i) k = ap (λ t. link ∷ t) (ended_after_asking links i k)
+
+-- a link that is lost right after it asked
+pub lost_before_sent : (p : Pipeline) (i k : ℕ) → after_over (after_next p i (Some k)) i ≡ after_over p i
+lost_before_sent p i k = ap (λ (links : List LinkAt). with_links p links) (ended_after_asking p.links i k)

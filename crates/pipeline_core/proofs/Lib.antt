@@ -6,3 +6,4 @@ pub mod Calls
 pub mod Full
 pub mod Alike
 pub mod Placed
+pub mod Awaited

@@ -5,17 +5,18 @@ use Rattle.std.proofs.Math.ListN.{length-replicate}
 use Rattle.std.proofs.lemmas.Bool.Decides.{nat_tests}
 use Rattle.std.proofs.lemmas.Bool.{cases_lt}
 use Rattle.std.proofs.lemmas.Option.{slice_get-get_or, slice_get_within}
+use Rattle.lists.specs.Edit.{edit_at}
 use Rattle.pipeline_core.specs.SegmentAt.{SegmentAt}
 use Rattle.pipeline_core.specs.LinkAt.{LinkAt}
-use Rattle.pipeline_core.specs.Links.{has_link_left, holder, times, edit_at, fresh_link, with_greeting, with_asked, without_oldest, with_end}
+use Rattle.pipeline_core.specs.Links.{has_link_left, holder, times, fresh_link, with_greeting, with_asked, without_oldest, with_end}
 use Rattle.pipeline_core.specs.PipelineAt.{Pipeline}
 use Rattle.pipeline_core.specs.Searches.{all_from, first_from, is_done_with, is_arrived_at, is_answered_at, lets_pass}
 use Rattle.pipeline_core.specs.declared.state.Outcome.{Outcome}
 use Rattle.pipeline_core.specs.declared.state.Outcome.TheVariants.{Arrived as HasArrived, NotHere}
 use Rattle.pipeline_core.specs.declared.state.SegmentState.{SegmentState}
 use Rattle.pipeline_core.specs.declared.state.SegmentState.TheVariants.{Open, Outstanding, Arrived, Exhausted}
-use Rattle.pipeline_core.specs.Pipeline.{is_spent, state_by, is_open, is_decided, can_be_asked, segment_state, after_greeting, after_next, after_over, after_reply, server_on, server_of, unanswered, with_outcome, start, is_finished}
-use Rattle.pipeline_core.specs.Sound.{IsExclusive, IsPlaced, HasFallen}
+use Rattle.pipeline_core.specs.Pipeline.{is_spent, state_by, is_open, is_decided, can_be_asked, segment_state, after_greeting, after_next, after_over, after_reply, server_on, server_of, unanswered, with_arrival, with_outcome, after_settling, start, is_finished}
+use Rattle.pipeline_core.specs.Sound.{IsExclusive, IsPlaced, IsUntouched, HasFallen}
 use Rattle.pipeline_core.proofs.OnePlace.{get-set_other, get-set_same, same_or_not}
 use Rattle.pipeline_core.proofs.Searching.{all_of, not_all, first_least, first_none_at, first_found, first_window}
 use Rattle.pipeline_core.proofs.Exclusive.{times-append, one_of_all, holder-new, holder-here, none_held, no_holder, set-edit}
@@ -23,6 +24,11 @@ use Rattle.pipeline_core.proofs.Calls.{one_time, no_times, first_place, get-repl
 use Rattle.pipeline_core.proofs.Free.{IsNext, held_cannot, arrived_cannot, answered_cannot}
 use Rattle.pipeline_core.proofs.Full.{can_stays, get-edit_other}
 use Rattle.pipeline_core.proofs.Alike.{left-kept, spent-more, state-same, can-same, holder-edit, times-other, times-rest, none-after}
+
+-- a segment that was never asked for and hasn't arrived is one of which nothing is known
+untouched_open : (o : Option SegmentAt) → IsUntouched o → is_arrived_at o ≡ false → o ≡ Some unanswered
+untouched_open o (inl known) waited = known
+untouched_open o (inr arrived) waited = let no_way : true ≡ false = sym arrived ∙ waited in cc
 
 -- a link was greeted
 pub placed-greeted : (p : Pipeline) (i : ℕ) (old : LinkAt) (lows : List ℕ) (fresh decided : ℕ) → slice_get p.links i ≡ Some old → IsPlaced p lows fresh decided → IsPlaced (after_greeting p i) lows fresh decided
@@ -35,6 +41,7 @@ placed-greeted p i old lows fresh decided is placed =
       marks = placed.marks;
       closed = λ v low s read below. can-same p links p.segments v s refl left (held s) ∙ placed.closed v low s read below;
       unasked = λ s from below. (held s ∙ (placed.unasked s from below).0, (placed.unasked s from below).1);
+      first_unasked = placed.first_unasked;
       all_decided = λ s below. ap is_decided (state-same p links p.segments s refl left (held s)) ∙ placed.all_decided s below;
     }
 
@@ -57,8 +64,8 @@ new_low lows server new low below read =
     let same : Some low ≡ Some new = sym read ∙ there in cc
 
 -- a link was asked for the segment that was found for it
-pub placed-next : (p : Pipeline) (i k : ℕ) (old : LinkAt) (lows : List ℕ) (fresh after decided : ℕ) → slice_get p.links i ≡ Some old → IsNext p old k → first_from (can_be_asked p old.server) 0 (length p.segments) ≡ Some k → old.server < 16 → fresh ≤ after → k < after → IsPlaced p lows fresh decided → IsPlaced (after_next p i (Some k)) (set lows old.server (k + 1)) after decided
-placed-next p i k old lows fresh after decided is next found small kept past placed =
+pub placed-next : (p : Pipeline) (i k : ℕ) (old : LinkAt) (lows : List ℕ) (fresh after decided : ℕ) → slice_get p.links i ≡ Some old → IsNext p old k → first_from (can_be_asked p old.server) 0 (length p.segments) ≡ Some k → old.server < 16 → fresh ≤ after → k < after → (after < length p.segments → is_arrived_at (slice_get p.segments after) ≡ false) → IsPlaced p lows fresh decided → IsPlaced (after_next p i (Some k)) (set lows old.server (k + 1)) after decided
+placed-next p i k old lows fresh after decided is next found small kept past waited placed =
     let links : List LinkAt = edit_at i (with_asked k) p.links in
     let can = (first_found (can_be_asked p old.server) 0 (length p.segments) k found).0 in
     let grown : times k (old.asked ++ k ∷ []) ≡ times k old.asked + times k (k ∷ []) = times-append k old.asked (k ∷ []) in
@@ -78,6 +85,7 @@ placed-next p i k old lows fresh after decided is next found small kept past pla
         | inr other ↦ can_stays p i k v s (placed.closed v low s (sym (get-set_other lows old.server v (k + 1) other) ∙ read) below)
       ];
       unasked = λ s from below. (held s (λ e. absurd (omega (arith, e))) ∙ (placed.unasked s (omega arith) below).0, (placed.unasked s (omega arith) below).1);
+      first_unasked = λ below. untouched_open (slice_get p.segments after) (placed.unasked after kept below).1 (waited below);
       all_decided = λ s below. elim (same_or_not s k) [
         | inl e ↦ (let no_way : true ≡ false = sym (placed.all_decided s below) ∙ ap (λ n. is_decided (segment_state p n)) e ∙ can_undecided p old.server k can in cc)
         | inr other ↦ ap is_decided (state-same p links p.segments s refl left (held s other)) ∙ placed.all_decided s below
@@ -96,6 +104,7 @@ placed-none p server lows fresh decided none small placed = record {
     | inr other ↦ placed.closed v low s (sym (get-set_other lows server v (length p.segments) other) ∙ read) below
   ];
   unasked = placed.unasked;
+  first_unasked = placed.first_unasked;
   all_decided = placed.all_decided;
 }
 
@@ -124,6 +133,10 @@ answered_closed q i k v low server NotHere was lows now whole small fell below =
   | inl e ↦ sym (answered_cannot q v k (ap (is_answered_at v) now ∙ ap (λ n. slice_index_or (edit_at server (λ old. true) was.answered) n false) e ∙ marked was.answered server (omega arith)))
   | inr other ↦ absurd (omega (arith, fell.fell refl other))
 ]
+
+arrived_decided : (arrived : Bool) (h : Option ℕ) (spent : Bool) → arrived ≡ true → is_decided (state_by arrived h spent) ≡ true
+arrived_decided true h spent is = refl
+arrived_decided false h spent is = cc
 
 not_arrived_by : (arrived : Bool) → (arrived ≡ true → ⊥) → arrived ≡ false
 not_arrived_by true never = absurd (never refl)
@@ -166,11 +179,47 @@ placed-reply p i k outcome old was lows after fresh decided is first there exclu
       unasked = λ s from below.
           (let other : s ≢ k = λ e. absurd (omega (arith, e)) in
           let under : s < length p.segments = rw (← length-edit p.segments k f) below in
-          (held s other ∙ (placed.unasked s from under).0, seen s other ∙ (placed.unasked s from under).1));
+          (held s other ∙ (placed.unasked s from under).0, subst IsUntouched (sym (seen s other)) (placed.unasked s from under).1));
+      first_unasked = λ below. seen fresh (λ e. absurd (omega (arith, e, below_fresh))) ∙ placed.first_unasked (rw (← length-edit p.segments k f) below);
       all_decided = λ s below. elim (same_or_not s k) [
         | inl e ↦ (let state : is_decided (segment_state p k) ≡ false = out_undecided (is_arrived_at (slice_get p.segments k)) (holder p.links k) (0 + i) (is_spent p k) here (not_arrived_by (is_arrived_at (slice_get p.segments k)) (λ arrived. absurd (omega (arith, exclusive.none_arrived k arrived, some, one_of_all p.links i k old is)))) in
             let no_way : true ≡ false = sym (placed.all_decided s below) ∙ ap (λ n. is_decided (segment_state p n)) e ∙ state in cc)
         | inr other ↦ ap is_decided (state-same p links segments s (seen s other) left (held s other)) ∙ placed.all_decided s below
+      ];
+    }
+
+-- a segment that no link holds has arrived
+pub placed-settling : (p : Pipeline) (k : ℕ) (was : SegmentAt) (lows : List ℕ) (fresh after decided : ℕ) → slice_get p.segments k ≡ Some was → holder p.links k ≡ None → fresh ≤ after → (after < length (after_settling p k).segments → is_arrived_at (slice_get (after_settling p k).segments after) ≡ false) → IsPlaced p lows fresh decided → IsPlaced (after_settling p k) lows after decided
+placed-settling p k was lows fresh after decided there unheld kept waited placed =
+    let q : Pipeline = after_settling p k in
+    let now : slice_get q.segments k ≡ Some (with_arrival was) = get-edit_same p.segments k with_arrival was there in
+    let arrived : is_arrived_at (slice_get q.segments k) ≡ true = ap is_arrived_at now in
+    let seen : (s : ℕ) → s ≢ k → slice_get q.segments s ≡ slice_get p.segments s = λ s other. get-edit_other p.segments k s with_arrival other in
+    let untouched : (s : ℕ) → after ≤ s → s < length q.segments → IsUntouched (slice_get q.segments s) = λ s from below.
+    (let under : s < length p.segments = rw (← length-edit p.segments k with_arrival) below in
+    elim (same_or_not s k) [
+      | inl e ↦ inr (ap (λ n. is_arrived_at (slice_get q.segments n)) e ∙ arrived)
+      | inr other ↦ subst IsUntouched (sym (seen s other)) (placed.unasked s (omega (arith, kept, from)) under).1
+    ]) in
+    record {
+      as_many = placed.as_many;
+      marks = λ s known read. elim (same_or_not s k) [
+        | inl e ↦ (let both : Some known ≡ Some (with_arrival was) = sym read ∙ ap (λ n. slice_get q.segments n) e ∙ now in
+            let same : known ≡ with_arrival was = cc in
+            ap (λ (x : SegmentAt). length x.answered) same ∙ placed.marks k was there)
+        | inr other ↦ placed.marks s known (sym (seen s other) ∙ read)
+      ];
+      closed = λ v low s read below. elim (same_or_not s k) [
+        | inl e ↦ ap (λ n. can_be_asked q v n) e ∙ sym (arrived_cannot q v k arrived)
+        | inr other ↦ can-same p p.links q.segments v s (seen s other) (λ v. refl) refl ∙ placed.closed v low s read below
+      ];
+      unasked = λ s from below.
+          (let under : s < length p.segments = rw (← length-edit p.segments k with_arrival) below in
+          ((placed.unasked s (omega (arith, kept, from)) under).0, untouched s from below));
+      first_unasked = λ below. untouched_open (slice_get q.segments after) (untouched after (omega arith) below) (waited below);
+      all_decided = λ s below. elim (same_or_not s k) [
+        | inl e ↦ ap (λ n. is_decided (segment_state q n)) e ∙ arrived_decided (is_arrived_at (slice_get q.segments k)) (holder q.links k) (is_spent q k) arrived
+        | inr other ↦ ap is_decided (state-same p p.links q.segments s (seen s other) (λ v. refl) refl) ∙ placed.all_decided s below
       ];
     }
 
@@ -192,6 +241,7 @@ placed-over p i old lows after fresh decided is zeros placed = record {
   marks = placed.marks;
   closed = λ v low s read below. absurd (omega (arith, zero_low 16 v low (ap (λ (t : List ℕ). slice_get t v) (sym zeros) ∙ read)));
   unasked = λ s from below. (none-after p.links i s old is (placed.unasked s from below).0, (placed.unasked s from below).1);
+  first_unasked = placed.first_unasked;
   all_decided = λ s below.
       decided_by (is_arrived_at (slice_get p.segments s)) (holder p.links s) (holder (edit_at i with_end p.links) s) (is_spent p s) (is_spent (after_over p i) s)
       (none-after p.links i s old is) (spent-more p i s) (placed.all_decided s below);
@@ -209,7 +259,8 @@ placed-start server_of_link levels n depth = record {
   closed = λ v low s read below. absurd (omega (arith, zero_low 16 v low read));
   unasked = λ s from below.
       (let under : s < n = rw (← length-replicate n unanswered) below in
-      (no_holder 0 (map fresh_link server_of_link) s (no_times server_of_link s), get-replicate n s unanswered under));
+      (no_holder 0 (map fresh_link server_of_link) s (no_times server_of_link s), inl (get-replicate n s unanswered under)));
+  first_unasked = λ below. (let under : 0 < n = rw (← length-replicate n unanswered) below in get-replicate n 0 unanswered under);
   all_decided = λ s below. absurd (omega arith);
 }
 
@@ -224,7 +275,7 @@ fresh_can p server s held known = ap (can_by p server (slice_get p.segments s)) 
 -- the search from a server's place to where nothing was asked for finds what one of all segments does
 pub window-found : (p : Pipeline) (server low end : ℕ) (lows : List ℕ) (fresh decided : ℕ) → IsPlaced p lows fresh decided → slice_get lows server ≡ Some low → fresh < length p.segments → end ≡ fresh + 1 → first_from (can_be_asked p server) low (end - low) ≡ first_from (can_be_asked p server) 0 (length p.segments)
 window-found p server low end lows fresh decided placed read inside is =
-    let here : can_be_asked p server fresh ≡ can_by p server (Some unanswered) None = let at = placed.unasked fresh (omega arith) inside in fresh_can p server fresh at.0 at.1 in
+    let here : can_be_asked p server fresh ≡ can_by p server (Some unanswered) None = fresh_can p server fresh (placed.unasked fresh (omega arith) inside).0 (placed.first_unasked inside) in
     first_window (can_be_asked p server) low end (length p.segments) (omega arith) (λ s below. placed.closed server low s read below)
     (λ none s from below.
     let fails : can_be_asked p server fresh ≡ false = elim (cases_lt fresh low) [
@@ -232,7 +283,10 @@ window-found p server low end lows fresh decided placed read inside is =
       | inr above ↦ first_none_at (can_be_asked p server) low (end - low) fresh none above (omega arith)
     ] in
     let at = placed.unasked s (omega arith) below in
-    fresh_can p server s at.0 at.1 ∙ sym here ∙ fails)
+    elim at.1 [
+      | inl known ↦ fresh_can p server s at.0 known ∙ sym here ∙ fails
+      | inr arrived ↦ sym (arrived_cannot p server s arrived)
+    ])
 
 pub whole-found : (p : Pipeline) (server low : ℕ) (lows : List ℕ) (fresh decided : ℕ) → IsPlaced p lows fresh decided → slice_get lows server ≡ Some low → first_from (can_be_asked p server) low (length p.segments - low) ≡ first_from (can_be_asked p server) 0 (length p.segments)
 whole-found p server low lows fresh decided placed read =
@@ -245,6 +299,7 @@ placed-decided p lows fresh decided after placed all = record {
   marks = placed.marks;
   closed = placed.closed;
   unasked = placed.unasked;
+  first_unasked = placed.first_unasked;
   all_decided = all;
 }
 

@@ -5,3 +5,4 @@ pub mod PipelineAt
 pub mod Searches
 pub mod Pipeline
 pub mod Sound
+pub mod Awaited

@@ -1,7 +1,8 @@
 -- The state of each segment, and the segment that a link asks for next.
 use Rattle.std.specs.Prelude.{◌&&◌, ℕ, Bool, true, false, not, List, [], Option, Some, None, if◌then◌else◌, length, map, replicate, slice_get}
+use Rattle.lists.specs.Edit.{edit_at}
 use Rattle.pipeline_core.specs.LinkAt.{LinkAt}
-use Rattle.pipeline_core.specs.Links.{fresh_link, with_greeting, with_asked, without_oldest, with_end, may_ask, holder, edit_at}
+use Rattle.pipeline_core.specs.Links.{fresh_link, with_greeting, with_asked, without_oldest, with_end, may_ask, holder}
 use Rattle.pipeline_core.specs.SegmentAt.{SegmentAt}
 use Rattle.pipeline_core.specs.PipelineAt.{Pipeline}
 use Rattle.pipeline_core.specs.Searches.{all_from, first_from, is_answered_at, is_arrived_at, is_done_with, lets_pass}
@@ -72,6 +73,13 @@ is_over_of None = false
 abbrev pub is_over_on : Pipeline → ℕ → Bool
 is_over_on p link = is_over_of (slice_get p.links link)
 
+abbrev pub is_greeted_of : Option LinkAt → Bool
+is_greeted_of (Some link) = link.greeted
+is_greeted_of None = false
+
+abbrev pub is_greeted_on : Pipeline → ℕ → Bool
+is_greeted_on p link = is_greeted_of (slice_get p.links link)
+
 abbrev pub asked_on : Pipeline → ℕ → List ℕ
 asked_on p link = asked_of (slice_get p.links link)
 
@@ -91,6 +99,10 @@ after_over p link = with_links p (edit_at link with_end p.links)
 
 abbrev pub with_arrival : SegmentAt → SegmentAt
 with_arrival segment = record { arrived = true; answered = segment.answered }
+
+-- a segment has arrived without an answer
+abbrev pub after_settling : Pipeline → ℕ → Pipeline
+after_settling p segment = record { links = p.links; segments = edit_at segment with_arrival p.segments; levels = p.levels; depth = p.depth }
 
 abbrev pub with_answer : ℕ → SegmentAt → SegmentAt
 with_answer server segment = record { arrived = segment.arrived; answered = edit_at server (λ old. true) segment.answered }

@@ -1,18 +1,19 @@
 // The links and the segments of a fetch, and the calls that change them.
-ghost use Rattle.std.specs.Prelude.{◌≡◌, ◌<◌, ◌≤◌, ◌-◌, ℕ, true, false, length, Some, None, Option, IfOk, slice_index, slice_get};
-ghost use Rattle.pipeline_core.specs.Links.{has_link_left};
-ghost use Rattle.pipeline_core.specs.Pipeline.{start, segment_state, next_segment, can_be_asked, asked_on, is_decided, is_finished, after_greeting, after_next, after_reply, after_over, is_over_on};
+ghost use Rattle.std.specs.Prelude.{◌≡◌, ◌<◌, ◌≤◌, ◌-◌, ℕ, true, false, length, Some, None, Option, IfOk, IfSome, slice_index, slice_get};
+ghost use Rattle.pipeline_core.specs.Links.{has_link_left, holder};
+ghost use Rattle.pipeline_core.specs.Pipeline.{start, segment_state, next_segment, can_be_asked, asked_on, is_decided, is_finished, after_greeting, after_next, after_reply, after_over, after_settling, is_greeted_on, is_over_on};
 ghost use Rattle.pipeline_core.specs.Searches.{first_from, waits_for};
 ghost use Rattle.pipeline_core.specs.Sound.{IsWhole};
+ghost use Rattle.limits.specs.declared.TheConstants.{MOST_SEGMENTS};
 
 use crate::link::Link;
 use crate::places::Places;
-use crate::scans::{forget, is_spent, servers_waited_for};
+use crate::scans::{first_to_come, forget, is_spent, servers_waited_for};
 use crate::segment::Segment;
 use crate::state::{Outcome, SegmentState};
+use lists::Memory;
 use std::alloc::Global;
 use std::marker::Model;
-use ub_base::Memory;
 
 /// Which segment is asked for on which link, and which servers have answered it.
 #[derive(Drop)]
@@ -50,7 +51,7 @@ impl Core {
         requires levels { (k : ℕ) → k < length level_of_server.now → slice_index level_of_server.now k ≤ 9 }
         requires links { length server_of_link.now ≤ 64 }
         requires each { (k : ℕ) → k < length server_of_link.now → slice_index server_of_link.now k < length level_of_server.now }
-        requires segments { segments ≤ 262144 }
+        requires segments { segments ≤ MOST_SEGMENTS }
         requires some_depth { 1 ≤ depth }
         requires depth { depth ≤ 32 }
         ensures { IfOk result (λ core. core ≡ start server_of_link.now level_of_server.now segments depth) }
@@ -88,6 +89,7 @@ impl Core {
         requires link { link < length self.old.links }
         ensures next { result ≡ next_segment self.old link }
         ensures after { self.new ≡ after_next self.old link result }
+        ensures within { IfSome result (λ segment. segment < length self.new.segments) }
     {
         let found = self.find_next(link);
         match found {
@@ -108,6 +110,7 @@ impl Core {
         asker.ask(segment);
         self.holders[segment as usize] = Some(link);
         self.places.note_asked(server, segment);
+        self.places.fresh = first_to_come(&self.segments, self.places.fresh);
     }
 
     // Where the link may be asked, its server can be asked for no segment.
@@ -198,7 +201,7 @@ impl Core {
         ensures within { result < length self.new.segments }
     {
         let segment = self.take_answer(link, outcome);
-        self.settle();
+        self.note_decided();
         segment
     }
 
@@ -225,7 +228,7 @@ impl Core {
         ensures { self.new ≡ after_over self.old link }
     {
         self.end(link);
-        self.settle();
+        self.note_decided();
     }
 
     fn end(&mut self, link: u32)
@@ -237,8 +240,27 @@ impl Core {
         self.places.note_over();
     }
 
+    /// The segment has arrived without being asked for, as one that an earlier run has kept. No link may have it outstanding.
+    pub fn settle(&mut self, segment: u32)
+        requires segment { segment < length self.old.segments }
+        requires unheld { holder self.old.links segment ≡ None }
+        ensures { self.new ≡ after_settling self.old segment }
+    {
+        self.arrive(segment);
+        self.note_decided();
+    }
+
+    fn arrive(&mut self, segment: u32)
+        requires segment { segment < length self.old.segments }
+        requires unheld { holder self.old.links segment ≡ None }
+        ensures { self.new ≡ after_settling self.old segment }
+    {
+        self.segments[segment as usize].arrive();
+        self.places.fresh = first_to_come(&self.segments, self.places.fresh);
+    }
+
     // Moves the place below which each segment is decided.
-    fn settle(&mut self)
+    fn note_decided(&mut self)
         ensures { self.new ≡ self.old }
     {
         let decided = self.first_undecided();
@@ -262,6 +284,22 @@ impl Core {
         segments
     }
 
+    /// Whether the link may be asked, unless it is over.
+    pub fn is_greeted(&self, link: u32) -> bool
+        requires { link < length self.now.links }
+        ensures { result ≡ is_greeted_on self.now link }
+    {
+        self.links[link as usize].is_greeted()
+    }
+
+    /// Whether the link is lost.
+    pub fn is_over(&self, link: u32) -> bool
+        requires { link < length self.now.links }
+        ensures { result ≡ is_over_on self.now link }
+    {
+        self.links[link as usize].is_over()
+    }
+
     /// How many segments are outstanding on the link.
     pub fn outstanding(&self, link: u32) -> u32
         requires { link < length self.now.links }
@@ -273,7 +311,8 @@ impl Core {
     /// The segment that has been outstanding longest on the link.
     pub fn oldest(&self, link: u32) -> Option<u32>
         requires { link < length self.now.links }
-        ensures { result ≡ slice_get (asked_on self.now link) 0 }
+        ensures oldest { result ≡ slice_get (asked_on self.now link) 0 }
+        ensures within { IfSome result (λ segment. segment < length self.now.segments) }
     {
         self.links[link as usize].oldest()
     }
@@ -302,7 +341,8 @@ impl Core {
 
     /// Whether each segment has arrived or is exhausted.
     pub fn finished(&self) -> bool
-        ensures { result ≡ is_finished self.now }
+        ensures value { result ≡ is_finished self.now }
+        ensures whole { IsWhole self.now }
     {
         self.first_undecided() as usize == self.segments.len()
     }

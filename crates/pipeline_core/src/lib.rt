@@ -10,5 +10,5 @@ mod segment;
 mod state;
 
 pub use core_state::Core;
-pub use laws::full_stays;
+pub use laws::{full_stays, lost_before_sent, someone_is_awaited};
 pub use state::{Outcome, SegmentState};

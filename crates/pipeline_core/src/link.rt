@@ -3,9 +3,9 @@ ghost use Rattle.std.specs.Prelude.{◌≡◌, ◌<◌, ◌≤◌, length, Some,
 ghost use Rattle.pipeline_core.specs.Links.{fresh_link, with_greeting, with_asked, without_oldest, with_end, may_ask};
 
 use circular_buffer::HeapCircularBuffer;
+use lists::Memory;
 use std::alloc::Global;
 use std::marker::Model;
-use ub_base::Memory;
 
 #[derive(Drop)]
 pub struct Link {
@@ -43,6 +43,12 @@ impl Link {
         ensures { result ≡ self.now.server }
     {
         self.server
+    }
+
+    pub fn is_greeted(&self) -> bool
+        ensures { result ≡ self.now.greeted }
+    {
+        self.greeted
     }
 
     pub fn is_over(&self) -> bool

@@ -1,6 +1,7 @@
 // Where the searches of a core begin, so that none goes over all segments again.
 ghost use Rattle.std.specs.Prelude.{◌≡◌, ◌≢◌, ◌<◌, ◌≤◌, ◌+◌, ℕ, Some, slice_get, slice_set, replicate, length};
 ghost use Rattle.pipeline_core.specs.Sound.{HasFallen};
+ghost use Rattle.limits.specs.declared.TheConstants.{MOST_SEGMENTS};
 
 use crate::state::Outcome;
 
@@ -8,7 +9,7 @@ use crate::state::Outcome;
 pub struct Places {
     // Of each server: it can be asked for no segment below this one.
     pub lows: [u32; 16],
-    // No segment from here on was ever asked for.
+    // No segment from here on was ever asked for, and this one hasn't arrived.
     pub fresh: u32,
     // Each segment below this one has arrived or is exhausted.
     pub decided: u32,
@@ -30,7 +31,7 @@ impl Places {
     // The server was asked for a segment, the least that it could be asked for.
     pub fn note_asked(&mut self, server: u32, segment: u32)
         requires server { server < 16 }
-        requires segment { segment < 262144 }
+        requires segment { segment < MOST_SEGMENTS }
         ensures lows { self.new.lows ≡ slice_set self.old.lows server (segment + 1) }
         ensures kept { self.old.fresh ≤ self.new.fresh }
         ensures past { segment < self.new.fresh }

@@ -1,7 +1,8 @@
-// What is found by going over the links.
-ghost use Rattle.std.specs.Prelude.{◌≡◌, ◌<◌, ◌≤◌, ◌&&◌, ℕ, length, nat_lt, Some, slice_get};
+// What is found by going over the links or the segments.
+ghost use Rattle.std.specs.Prelude.{◌≡◌, ◌<◌, ◌≤◌, ◌&&◌, ℕ, false, length, nat_lt, Some, slice_get};
 ghost use Rattle.pipeline_core.specs.Links.{has_link_left};
-ghost use Rattle.pipeline_core.specs.Searches.{all_from, forgotten_at, is_done_with, waits_for};
+ghost use Rattle.pipeline_core.specs.Searches.{all_from, forgotten_at, is_arrived_at, is_done_with, waits_for};
+ghost use Rattle.limits.specs.declared.TheConstants.{MOST_SEGMENTS};
 
 use crate::link::Link;
 use crate::segment::Segment;
@@ -50,6 +51,21 @@ fn is_waited_for(links: &[Link], level: u8, asking: u8, server: u32) -> bool
     ensures { result ≡ (nat_lt level asking && has_link_left links.now server) }
 {
     level < asking && has_link_left(links, server)
+}
+
+// The first segment from a place on that hasn't arrived. Where there is none, a place behind all of them.
+pub(crate) fn first_to_come(segments: &[Segment], from: u32) -> u32
+    requires few { length segments.now ≤ MOST_SEGMENTS }
+    ensures onward { from ≤ result }
+    ensures waited { result < length segments.now → is_arrived_at (slice_get segments.now result) ≡ false }
+{
+    let end = segments.len() as u32;
+    for at in from..end {
+        if !segments[at as usize].has_arrived() {
+            return at;
+        }
+    }
+    from.max(end)
 }
 
 // No segment is held by the link any more.

@@ -1,6 +1,6 @@
 // One segment: whether it arrived, and which servers have answered that they haven't got it.
 ghost use Rattle.std.specs.Prelude.{◌≡◌, ◌<◌, ◌≤◌, ◌&&◌, false, not, slice_index_or};
-ghost use Rattle.pipeline_core.specs.Pipeline.{unanswered, with_outcome};
+ghost use Rattle.pipeline_core.specs.Pipeline.{unanswered, with_arrival, with_outcome};
 ghost use Rattle.pipeline_core.specs.Searches.{all_from, passes};
 
 use crate::state::Outcome;
@@ -58,13 +58,19 @@ impl Segment {
         true
     }
 
+    pub fn arrive(&mut self)
+        ensures { self.new ≡ with_arrival self.old }
+    {
+        self.arrived = true;
+    }
+
     /// What an answer of this server says.
     pub fn note(&mut self, server: u32, outcome: Outcome)
         requires { server < 16 }
         ensures { self.new ≡ with_outcome server outcome self.old }
     {
         match outcome {
-            Outcome::Arrived => self.arrived = true,
+            Outcome::Arrived => self.arrive(),
             Outcome::NotHere => self.answered[server as usize] = true,
         }
     }

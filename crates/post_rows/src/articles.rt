@@ -1,8 +1,8 @@
 // The articles of a file.
 use crate::fixtures::{are_lines, make_article, settings_of};
+use lists::{Bytes, Lines};
 use poster::plan;
 use std::test::Fail;
-use ub_base::{Bytes, Lines};
 
 #[test]
 fn a_short_file_has_one_article(rt: HostRuntime) -> Result<(), Fail> {

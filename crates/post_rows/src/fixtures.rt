@@ -1,23 +1,15 @@
 // What the tests hand in.
-ghost use Rattle.std.specs.Prelude.{◌≡◌, IfOk};
+ghost use Rattle.std.specs.Prelude.{IfOk};
 ghost use Rattle.poster.specs.Plan.{IsPlanOf};
 ghost use Rattle.poster.specs.Settings.{AreSettings};
 
 use article_head::{is_comment, is_domain, is_file_name, is_from, is_newsgroups, is_token};
+use lists::{Bytes, Lines};
 use poster::{Plan, Settings, write_article};
+use row_fixtures::bytes_of;
 use std::alloc::Global;
 use std::test::Fail;
-use ub_base::{Bytes, Lines};
 use yenc_lines::Name;
-
-/// A list of these bytes.
-pub(crate) fn bytes_of(alloc: Global, text: &[u8]) -> Result<Bytes, Fail>
-    ensures { IfOk result (λ bytes. bytes ≡ text.now) }
-{
-    let mut bytes = Bytes::new(alloc);
-    bytes.extend(text)?;
-    Ok(bytes)
-}
 
 /// Settings for a file `d` that keep to the rules.
 pub(crate) fn settings_of(

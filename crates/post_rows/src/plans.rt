@@ -3,11 +3,11 @@ ghost use Rattle.std.specs.Prelude.{IfOk};
 ghost use Rattle.poster.specs.Index.{AreOutcomes};
 
 use crate::fixtures::settings_of;
+use lists::{Bytes, List};
 use nzb_index::write_nzb;
 use poster::{PartEnd, Plan, PlanError, Sent, plan, post_index};
 use std::alloc::Global;
 use std::test::Fail;
-use ub_base::{Bytes, List};
 
 #[test]
 fn a_file_is_cut_into_parts(rt: HostRuntime) -> Result<(), Fail> {

@@ -1,10 +1,14 @@
 // Sessions of a file of three parts.
-use crate::fixtures::{bytes_of, settings_of};
+use crate::fixtures::settings_of;
+use io_memory::ScriptLinks;
+use io_traits::{Input, LinkEvent};
+use lists::List;
 use nntp_lines::Why;
 use poster::{PartEnd, PostError, Sent, plan, run_post};
+use row_fixtures::{are_kinds, bytes_sent, files_of, links_of, taking_links_of};
 use std::alloc::Global;
+use std::process::Abort;
 use std::test::Fail;
-use ub_base::{Input, LinkEvent, List, MemInput, ScriptLinks, Turn};
 
 const POSTED: PartEnd = PartEnd::Posted;
 
@@ -22,24 +26,62 @@ enum Outcome {
     NoLink,
 }
 
-// Links of which the first gives these pieces, and then ends. The calls of these numbers fail.
-fn links_of(alloc: Global, pieces: &[&[u8]], failing: &[u64]) -> Result<ScriptLinks, Fail> {
-    let mut script = List::new(alloc);
-    for piece in pieces {
-        script.push(Turn::Give(bytes_of(alloc, piece)?))?;
-    }
-    script.push(Turn::End)?;
-    let mut scripts = List::new(alloc);
-    scripts.push(script)?;
-    Ok(ScriptLinks::new(alloc, scripts, numbers_of(alloc, failing)?)?)
+// A post, and the links that it was handed.
+#[derive(Drop)]
+struct Posted {
+    answered: Result<List<Sent>, PostError>,
+    links: ScriptLinks,
 }
 
-fn numbers_of(alloc: Global, numbers: &[u64]) -> Result<List<u64>, Fail> {
-    let mut list = List::new(alloc);
-    for number in numbers {
-        list.push(*number)?;
+// Posts over links of which the first gives these pieces, and then ends. The calls of these numbers on the links and on the
+// input fail.
+fn posts<R: Abort + AllocGlobal>(
+    rt: &R,
+    pieces: &[&[u8]],
+    failing: &[u64],
+    failing_reads: &[u64],
+) -> Posted {
+    let mut links = links_of(rt.alloc(), pieces, failing).expect(rt, "links");
+    match post(rt.alloc(), &mut links, failing_reads) {
+        Ok(answered) => Posted { answered, links },
+        Err(_) => rt.panic("a plan and a file"),
     }
-    Ok(list)
+}
+
+// Asserts that a post answered so, with these outcomes, and gives the links back.
+fn came_to<R: Abort>(rt: &R, posted: Posted, ends: &[PartEnd], wanted: Outcome) -> ScriptLinks {
+    let Posted { answered, links } = posted;
+    assert!(rt; told(answered, ends) == Some(wanted), "{wanted:?}");
+    links
+}
+
+// The same, where the links don't matter.
+fn came<R: Abort>(rt: &R, posted: Posted, ends: &[PartEnd], wanted: Outcome) {
+    let _links = came_to(rt, posted, ends, wanted);
+}
+
+// Asserts that these are the kinds of all events, by their first letters: opened, sent, heard, quiet and ended.
+fn happened<R: Abort>(rt: &R, links: ScriptLinks, kinds: &[u8]) {
+    assert!(rt; are_kinds(links.events(), kinds));
+}
+
+// The same, where `QUIT` is the last of them.
+fn happened_and_quit<R: Abort>(rt: &R, links: ScriptLinks, kinds: &[u8]) {
+    assert!(rt; ends_with(&links, b"QUIT\r\n"));
+    happened(rt, links, kinds);
+}
+
+// Asserts that the third part has an article that is shorter than the first one's.
+fn third_is_shorter<R: Abort>(rt: &R, posted: Posted) -> Posted {
+    let shorter = match &posted.answered {
+        Ok(sent) => match sent.as_slice() {
+            [first, _, third] => third.bytes > 0 && third.bytes < first.bytes,
+            _ => false,
+        },
+        Err(_) => false,
+    };
+    assert!(rt; shorter);
+    posted
 }
 
 // Posts a file of 20 bytes in parts of nine. The calls on the input of these numbers fail; the first opens the file, and each
@@ -50,12 +92,7 @@ fn post(
     failing: &[u64],
 ) -> Result<Result<List<Sent>, PostError>, Fail> {
     let settings = settings_of(alloc, b"misc.test", 9)?;
-    let mut files = List::new(alloc);
-    files.push((
-        bytes_of(alloc, b"d")?,
-        bytes_of(alloc, b"12345678912345678912")?,
-    ))?;
-    let mut input = MemInput::new(files, numbers_of(alloc, failing)?);
+    let mut input = files_of(alloc, &[("d", b"12345678912345678912")], failing)?;
     let len = input.open("d")?;
     if len > 1_099_511_627_776 {
         return Err("a file that isn't too long".into());
@@ -102,30 +139,6 @@ fn ends_are(sent: &List<Sent>, ends: &[PartEnd]) -> bool {
     true
 }
 
-// The kinds of all events, by their first letters: opened, sent, heard, quiet and ended.
-fn events_are(links: &ScriptLinks, kinds: &[u8]) -> bool {
-    let events = links.events();
-    if events.len() != kinds.len() {
-        return false;
-    }
-    for i in 0..events.len() {
-        if kind_of(&events[i]) != kinds[i] {
-            return false;
-        }
-    }
-    true
-}
-
-fn kind_of(event: &LinkEvent) -> u8 {
-    match event {
-        LinkEvent::Opened { .. } => b'O',
-        LinkEvent::Sent { .. } => b'S',
-        LinkEvent::Heard { .. } => b'H',
-        LinkEvent::Quiet { .. } => b'Q',
-        LinkEvent::Ended { .. } => b'E',
-    }
-}
-
 // Whether the last bytes that went out are these.
 fn ends_with(links: &ScriptLinks, text: &[u8]) -> bool {
     match links.events().last() {
@@ -135,7 +148,7 @@ fn ends_with(links: &ScriptLinks, text: &[u8]) -> bool {
 }
 
 #[test]
-fn all_parts_are_posted(rt: HostRuntime) -> Result<(), Fail> {
+fn all_parts_are_posted(rt: HostRuntime) {
     let pieces: [&[u8]; 7] = [
         b"200 hi\r\n",
         b"340 go\r\n",
@@ -145,29 +158,14 @@ fn all_parts_are_posted(rt: HostRuntime) -> Result<(), Fail> {
         b"340 go\r\n",
         b"240 ok\r\n",
     ];
-    let mut links = links_of(rt.alloc(), &pieces, &[])?;
-    let answered = post(rt.alloc(), &mut links, &[])?;
-    match &answered {
-        Ok(sent) => {
-            let sent = sent.as_slice();
-            assert_eq!(rt; sent.len(), 3);
-            if sent.len() == 3 {
-                assert!(rt; sent[2].bytes > 0 && sent[2].bytes < sent[0].bytes);
-            }
-        }
-        Err(_) => return Err("a list of outcomes".into()),
-    }
-    assert_eq!(rt;
-        told(answered, &[POSTED, POSTED, POSTED]),
-        Some(Outcome::Sent)
-    );
-    assert!(rt; events_are(&links, b"OHSHSHSHSHSHSHS"));
-    assert!(rt; ends_with(&links, b"QUIT\r\n"));
-    Ok(())
+    let posted = posts(&rt, &pieces, &[], &[]);
+    let posted = third_is_shorter(&rt, posted);
+    let links = came_to(&rt, posted, &[POSTED, POSTED, POSTED], Outcome::Sent);
+    happened_and_quit(&rt, links, b"OHSHSHSHSHSHSHS");
 }
 
 #[test]
-fn a_refused_article_is_not_posted_again(rt: HostRuntime) -> Result<(), Fail> {
+fn a_refused_article_is_not_posted_again(rt: HostRuntime) {
     let pieces: [&[u8]; 7] = [
         b"200 hi\r\n",
         b"340 go\r\n",
@@ -177,114 +175,142 @@ fn a_refused_article_is_not_posted_again(rt: HostRuntime) -> Result<(), Fail> {
         b"340 go\r\n",
         b"240 ok\r\n",
     ];
-    let mut links = links_of(rt.alloc(), &pieces, &[])?;
-    let answered = post(rt.alloc(), &mut links, &[])?;
-    assert_eq!(rt;
-        told(answered, &[POSTED, PartEnd::Refused(441), POSTED]),
-        Some(Outcome::Sent)
+    let posted = posts(&rt, &pieces, &[], &[]);
+    let links = came_to(
+        &rt,
+        posted,
+        &[POSTED, PartEnd::Refused(441), POSTED],
+        Outcome::Sent,
     );
-    assert!(rt; events_are(&links, b"OHSHSHSHSHSHSHS"));
-    Ok(())
+    happened(&rt, links, b"OHSHSHSHSHSHSHS");
 }
 
 #[test]
-fn a_lost_answer_leaves_a_part_unsure(rt: HostRuntime) -> Result<(), Fail> {
-    let mut links = links_of(rt.alloc(), &[b"200 hi\r\n", b"340 go\r\n"], &[])?;
-    let answered = post(rt.alloc(), &mut links, &[])?;
-    assert_eq!(rt;
-        told(answered, &[PartEnd::Unsure, UNSENT, UNSENT]),
-        Some(Outcome::Sent)
+fn a_lost_answer_leaves_a_part_unsure(rt: HostRuntime) {
+    let posted = posts(&rt, &[b"200 hi\r\n", b"340 go\r\n"], &[], &[]);
+    let links = came_to(
+        &rt,
+        posted,
+        &[PartEnd::Unsure, UNSENT, UNSENT],
+        Outcome::Sent,
     );
-    assert!(rt; events_are(&links, b"OHSHSE"));
+    happened(&rt, links, b"OHSHSE");
     let pieces: [&[u8]; 4] = [b"200 hi\r\n", b"340 go\r\n", b"240 ok\r\n", b"340 go\r\n"];
-    let mut links = links_of(rt.alloc(), &pieces, &[])?;
-    let answered = post(rt.alloc(), &mut links, &[])?;
-    assert_eq!(rt;
-        told(answered, &[POSTED, PartEnd::Unsure, UNSENT]),
-        Some(Outcome::Sent)
+    let posted = posts(&rt, &pieces, &[], &[]);
+    came(
+        &rt,
+        posted,
+        &[POSTED, PartEnd::Unsure, UNSENT],
+        Outcome::Sent,
     );
-    Ok(())
 }
 
 #[test]
-fn an_article_that_is_cut_off_is_told(rt: HostRuntime) -> Result<(), Fail> {
+fn an_article_that_is_cut_off_is_told(rt: HostRuntime) {
     // The fifth call sends the first article, of which no byte goes out.
-    let mut links = links_of(rt.alloc(), &[b"200 hi\r\n", b"340 go\r\n"], &[5])?;
-    let answered = post(rt.alloc(), &mut links, &[])?;
-    assert_eq!(rt; told(answered, &[]), Some(Outcome::Over(Why::Ended)));
+    let posted = posts(&rt, &[b"200 hi\r\n", b"340 go\r\n"], &[5], &[]);
+    came(&rt, posted, &[], Outcome::Over(Why::Ended));
     let pieces: [&[u8]; 4] = [b"200 hi\r\n", b"340 go\r\n", b"240 ok\r\n", b"340 go\r\n"];
-    let mut links = links_of(rt.alloc(), &pieces, &[9])?;
-    let answered = post(rt.alloc(), &mut links, &[])?;
-    assert_eq!(rt;
-        told(answered, &[POSTED, UNSENT, UNSENT]),
-        Some(Outcome::Sent)
-    );
-    Ok(())
+    let posted = posts(&rt, &pieces, &[9], &[]);
+    came(&rt, posted, &[POSTED, UNSENT, UNSENT], Outcome::Sent);
 }
 
 #[test]
-fn a_refused_post_ends_the_session(rt: HostRuntime) -> Result<(), Fail> {
-    let mut links = links_of(rt.alloc(), &[b"200 hi\r\n", b"440 no\r\n"], &[])?;
-    let answered = post(rt.alloc(), &mut links, &[])?;
-    assert_eq!(rt;
-        told(answered, &[UNSENT, UNSENT, UNSENT]),
-        Some(Outcome::Refused(440))
+fn a_refused_post_ends_the_session(rt: HostRuntime) {
+    let posted = posts(&rt, &[b"200 hi\r\n", b"440 no\r\n"], &[], &[]);
+    let links = came_to(
+        &rt,
+        posted,
+        &[UNSENT, UNSENT, UNSENT],
+        Outcome::Refused(440),
     );
-    assert!(rt; events_are(&links, b"OHSHS"));
-    assert!(rt; ends_with(&links, b"QUIT\r\n"));
+    happened_and_quit(&rt, links, b"OHSHS");
     let pieces: [&[u8]; 4] = [b"200 hi\r\n", b"340 go\r\n", b"240 ok\r\n", b"440 no\r\n"];
-    let mut links = links_of(rt.alloc(), &pieces, &[])?;
-    let answered = post(rt.alloc(), &mut links, &[])?;
-    assert_eq!(rt;
-        told(answered, &[POSTED, UNSENT, UNSENT]),
-        Some(Outcome::Refused(440))
+    let posted = posts(&rt, &pieces, &[], &[]);
+    came(
+        &rt,
+        posted,
+        &[POSTED, UNSENT, UNSENT],
+        Outcome::Refused(440),
     );
-    Ok(())
 }
 
 #[test]
-fn bytes_behind_an_answer_end_the_session(rt: HostRuntime) -> Result<(), Fail> {
+fn bytes_behind_an_answer_end_the_session(rt: HostRuntime) {
     let pieces: [&[u8]; 3] = [b"200 hi\r\n", b"340 go\r\n", b"240 ok\r\n3"];
-    let mut links = links_of(rt.alloc(), &pieces, &[])?;
-    let answered = post(rt.alloc(), &mut links, &[])?;
-    assert_eq!(rt;
-        told(answered, &[POSTED, UNSENT, UNSENT]),
-        Some(Outcome::Sent)
-    );
-    assert!(rt; events_are(&links, b"OHSHSH"));
-    let mut links = links_of(rt.alloc(), &[b"200 hi\r\n", b"340 go\r\n3"], &[])?;
-    let answered = post(rt.alloc(), &mut links, &[])?;
-    assert_eq!(rt; told(answered, &[]), Some(Outcome::Over(Why::Unasked)));
-    Ok(())
+    let posted = posts(&rt, &pieces, &[], &[]);
+    let links = came_to(&rt, posted, &[POSTED, UNSENT, UNSENT], Outcome::Sent);
+    happened(&rt, links, b"OHSHSH");
+    let posted = posts(&rt, &[b"200 hi\r\n", b"340 go\r\n3"], &[], &[]);
+    came(&rt, posted, &[], Outcome::Over(Why::Unasked));
 }
 
 #[test]
-fn nothing_is_said_where_no_link_serves(rt: HostRuntime) -> Result<(), Fail> {
-    let mut links = links_of(rt.alloc(), &[b"502 no\r\n"], &[])?;
-    let answered = post(rt.alloc(), &mut links, &[])?;
-    assert_eq!(rt;
-        told(answered, &[]),
-        Some(Outcome::Over(Why::Greeting(502)))
-    );
-    assert!(rt; events_are(&links, b"OH"));
-    let mut links = links_of(rt.alloc(), &[], &[1])?;
-    let answered = post(rt.alloc(), &mut links, &[])?;
-    assert_eq!(rt; told(answered, &[]), Some(Outcome::NoLink));
-    assert!(rt; events_are(&links, b""));
-    Ok(())
+fn nothing_is_said_where_no_link_serves(rt: HostRuntime) {
+    let posted = posts(&rt, &[b"502 no\r\n"], &[], &[]);
+    let links = came_to(&rt, posted, &[], Outcome::Over(Why::Greeting(502)));
+    happened(&rt, links, b"OH");
+    let posted = posts(&rt, &[], &[1], &[]);
+    let links = came_to(&rt, posted, &[], Outcome::NoLink);
+    happened(&rt, links, b"");
 }
 
 #[test]
-fn a_part_that_is_not_read_ends_the_session(rt: HostRuntime) -> Result<(), Fail> {
+fn a_part_that_is_not_read_ends_the_session(rt: HostRuntime) {
     let pieces: [&[u8]; 3] = [b"200 hi\r\n", b"340 go\r\n", b"240 ok\r\n"];
-    let mut links = links_of(rt.alloc(), &pieces, &[])?;
-    let answered = post(rt.alloc(), &mut links, &[2])?;
-    assert_eq!(rt; told(answered, &[]), Some(Outcome::Input));
-    assert!(rt; events_are(&links, b""));
-    let mut links = links_of(rt.alloc(), &pieces, &[])?;
-    let answered = post(rt.alloc(), &mut links, &[3])?;
-    assert_eq!(rt; told(answered, &[]), Some(Outcome::Input));
-    assert!(rt; events_are(&links, b"OHSHSHS"));
-    assert!(rt; ends_with(&links, b"QUIT\r\n"));
-    Ok(())
+    let posted = posts(&rt, &pieces, &[], &[2]);
+    let links = came_to(&rt, posted, &[], Outcome::Input);
+    happened(&rt, links, b"");
+    let posted = posts(&rt, &pieces, &[], &[3]);
+    let links = came_to(&rt, posted, &[], Outcome::Input);
+    happened_and_quit(&rt, links, b"OHSHSHS");
+}
+
+// What every link of a post of three parts is given.
+const ALL_TAKEN: [&[u8]; 7] = [
+    b"200 hi\r\n",
+    b"340 go\r\n",
+    b"240 ok\r\n",
+    b"340 go\r\n",
+    b"240 ok\r\n",
+    b"340 go\r\n",
+    b"240 ok\r\n",
+];
+
+// A post over links of which the sends take at most these numbers of bytes each.
+fn posts_in_parts<R: Abort + AllocGlobal>(rt: &R, failing: &[u64], takes: &[usize]) -> Posted {
+    let mut links = taking_links_of(rt.alloc(), &ALL_TAKEN, failing, takes).expect(rt, "links");
+    match post(rt.alloc(), &mut links, &[]) {
+        Ok(answered) => Posted { answered, links },
+        Err(_) => rt.panic("a plan and a file"),
+    }
+}
+
+// Asserts that the same bytes went out on both, on the second by more sends.
+fn same_in_more_sends<R: Abort + AllocGlobal>(rt: &R, whole: ScriptLinks, short: ScriptLinks) {
+    let wanted = bytes_sent(rt.alloc(), whole.events()).expect(rt, "bytes");
+    let sent = bytes_sent(rt.alloc(), short.events()).expect(rt, "bytes");
+    assert!(rt; sent.as_slice() == wanted.as_slice());
+    assert!(rt; short.events().len() > whole.events().len());
+}
+
+#[test]
+fn articles_go_out_in_short_sends_as_in_whole_ones(rt: HostRuntime) {
+    let all = [POSTED, POSTED, POSTED];
+    let whole = came_to(&rt, posts_in_parts(&rt, &[], &[]), &all, Outcome::Sent);
+    let short = came_to(&rt, posts_in_parts(&rt, &[], &[7; 50]), &all, Outcome::Sent);
+    same_in_more_sends(&rt, whole, short);
+}
+
+#[test]
+fn an_article_of_which_a_part_went_out_is_unsure(rt: HostRuntime) {
+    // The sixth call is to send what the fifth left of the first article.
+    let posted = posts_in_parts(&rt, &[6], &[10, 10]);
+    let links = came_to(
+        &rt,
+        posted,
+        &[PartEnd::Unsure, UNSENT, UNSENT],
+        Outcome::Sent,
+    );
+    happened(&rt, links, b"OHSHSE");
 }

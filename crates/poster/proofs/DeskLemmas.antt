@@ -1,8 +1,8 @@
 -- One part read and made.
 use Rattle.std.proofs.Common.{◌≡◌, ◌+◌, ◌-◌, ◌≤◌, ℕ, List, length, get_or, Option, Some, None, sym, subst, ap, arith}
 use Rattle.std.specs.Prelude.{IfSome, OnSome, IsSomeAnd}
-use Rattle.ub_base.specs.declared.blame.Blame.{Blame}
-use Rattle.ub_base.specs.declared.blame.Blame.TheVariants.{Open, Read, Create, Write, SetLen, Send, Receive}
+use Rattle.io_traits.specs.declared.blame.Blame.{Blame}
+use Rattle.io_traits.specs.declared.blame.Blame.TheVariants.{Open, Read, Create, Keep, Write, SetLen, Send, Receive}
 use Rattle.input_files.specs.Reading.{Reading, HasFailed, IsIn, IsPiece, IsReadIn, IsShortAt}
 use Rattle.yenc_body.specs.Parts.{part_length, part_place}
 use Rattle.yenc_body.proofs.PartLaws.{place_before}
@@ -41,6 +41,7 @@ read_inside place len size None fits is = tt
 read_inside place len size (Some (Read at)) fits is = (omega arith, omega (arith, is.1, fits))
 read_inside place len size (Some (Open name)) fits is = absurd is
 read_inside place len size (Some (Create file name)) fits is = absurd is
+read_inside place len size (Some (Keep file name)) fits is = absurd is
 read_inside place len size (Some (Write file at n)) fits is = absurd is
 read_inside place len size (Some (SetLen file n)) fits is = absurd is
 read_inside place len size (Some (Send link)) fits is = absurd is

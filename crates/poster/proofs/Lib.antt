@@ -2,7 +2,6 @@ pub mod ArticleLaws
 pub mod ArticlesThere
 pub mod BodyLines
 pub mod DeskLemmas
-pub mod HeardLemmas
 pub mod IndexLaws
 pub mod MadeLaws
 pub mod PlanLaws
@@ -13,3 +12,4 @@ pub mod SaidLemmas
 mod SessionRows
 pub mod SessionSteps
 pub mod ShortText
+pub mod StopLemmas

@@ -1,54 +1,23 @@
 -- One article posted, from what its dialog says.
-use Rattle.std.proofs.Common.{◌≡◌, ◌≢◌, ◌<◌, ◌+◌, ◌≤◌, ℕ, true, List, [], ◌∷◌, ◌++◌, Option, Some, None, refl, ap, sym, subst, ◌∙◌, append_assoc, append-nil, length, take, arith, lit<, lit≤}
+use Rattle.std.proofs.Common.{◌≡◌, ◌≢◌, ◌<◌, ◌+◌, ◌≤◌, ℕ, true, List, [], ◌∷◌, ◌++◌, Option, None, refl, ap, sym, subst, ◌∙◌, append_assoc, append-nil, length, take, arith, lit≤}
 use Rattle.std.specs.Prelude.{slice_get}
 use Rattle.std.proofs.lemmas.Bool.{eq-eqb}
 use Rattle.std.proofs.lemmas.List.{length-append, length-take}
-use Rattle.ub_base.specs.declared.links.LinkEvent.{LinkEvent}
+use Rattle.io_traits.specs.declared.links.LinkEvent.{LinkEvent}
 use Rattle.nntp_lines.specs.declared.why.Why.{Why}
 use Rattle.nntp_lines.specs.declared.why.Why.TheVariants as why
 use Rattle.link_dialog.specs.declared.dialog.Dialog.{Dialog}
-use Rattle.link_dialog.specs.Dialog.{Message, AreFull, all_bytes, asked_by, login_messages, IsDialog}
-use Rattle.link_dialog.specs.Moments.{why_over}
+use Rattle.link_dialog.specs.Dialog.{Message}
 use Rattle.link_dialog.specs.Replies.{Reply}
-use Rattle.link_dialog.specs.Talk.{Start, Rests, Ends, Talked, IsSettled, bytes_said, said_of, patience_of}
-use Rattle.poster.specs.Said.{post_message, article_message, quit_message, part_messages, post_length, part_end, refusal_in}
-use Rattle.poster.specs.Posting.{IsRefused, IsUnsent, IsHeld, IsBroken, IsPosting, IsSending}
+use Rattle.link_dialog.specs.Talk.{Start, Rests, Ends, Talked, IsRefused, IsSettled, bytes_said, patience_of, quit_message}
+use Rattle.link_dialog.proofs.Sessions.{ends_longer, refused, refused_at_end, said_after, said_more}
+use Rattle.poster.specs.Said.{post_message, article_message, part_messages, post_length, part_end, refusal_in}
+use Rattle.poster.specs.Posting.{IsUnsent, IsHeld, IsBroken, IsPosting, IsSending}
 use Rattle.poster.specs.declared.index.PartEnd.{PartEnd}
 use Rattle.poster.specs.declared.index.PartEnd.TheVariants.{Unsure}
 use Rattle.poster.specs.declared.posting.Posting.{Posting}
 use Rattle.poster.specs.declared.posting.Posting.TheVariants as posting
-use Rattle.poster.proofs.SaidLemmas.{bytes-append, full-append, no_refusal}
-
--- ---- where the link is over
-
--- the same, where more was to be said
-pub ends_longer : (start : Start) (now : Option (List LinkEvent)) (patience : ℕ) (messages extra longer : List Message) (out whole : List ℕ) (reason : Why) (replies all : List Reply) → messages ++ extra ≡ longer → AreFull extra → out ≡ whole → replies ≡ all →
-    Ends start now patience messages out reason replies → Ends start now patience longer whole reason all
-ends_longer start now patience messages extra longer out whole reason replies all is full same heard e =
-    let again : (more : List Message) → messages ++ (extra ++ more) ≡ longer ++ more = λ more. sym (append_assoc messages extra more) ∙ ap (λ ms. ms ++ more) is in
-    let longer_ends : Ends start now patience longer whole reason replies = record {
-      link = e.link;
-      events = e.events;
-      on_this = e.on_this;
-      told = e.told;
-      bytes = e.bytes ∙ same;
-      dialog = λ more more_full. subst (λ (ms : List Message). IsDialog start.login ms patience e.events replies) (again more) (e.dialog (extra ++ more) (full-append extra more full more_full));
-      over = λ more more_full. subst (λ (ms : List Message). why_over patience (asked_by (said_of start ms replies)) e.events ≡ Some reason) (again more) (e.over (extra ++ more) (full-append extra more full more_full));
-    } in
-    subst (λ (rs : List Reply). Ends start now patience longer whole reason rs) heard longer_ends
-
--- one message more was said
-pub said_more : (start : Start) (messages : List Message) (message : Message) (replies : List Reply) → bytes_said start (messages ++ message ∷ []) replies ≡ bytes_said start messages replies ++ message.bytes
-said_more start messages message replies =
-    let login : List Message = login_messages start.login replies in
-    ap (λ ms. all_bytes ms) (sym (append_assoc login messages (message ∷ [])))
-    ∙ bytes-append (login ++ messages) (message ∷ [])
-    ∙ ap (λ bytes. all_bytes (login ++ messages) ++ bytes) (append-nil message.bytes)
-
--- the same, where replies were heard that change no login
-said_after : (start : Start) (messages : List Message) (message : Message) (replies answers : List Reply) → IsSettled start.login replies → bytes_said start (messages ++ message ∷ []) (replies ++ answers) ≡ bytes_said start messages replies ++ message.bytes
-said_after start messages message replies answers settled =
-    ap (λ (login : List Message). all_bytes (login ++ (messages ++ message ∷ []))) (settled answers) ∙ said_more start messages message replies
+use Rattle.poster.proofs.SaidLemmas.{no_refusal}
 
 -- ---- POST
 
@@ -90,19 +59,12 @@ post_unasked start now patience messages block replies reply some is e =
 
 -- POST is refused, and the link goes on or not
 pub post_refused : (start : Start) (now : Option (List LinkEvent)) (patience : ℕ) (messages : List Message) (replies : List Reply) (reply : Reply) → reply.code ≢ 340 →
-    Talked start now patience ((messages ++ post_message ∷ []) ++ quit_message ∷ []) (replies ++ reply ∷ []) → IsRefused start now patience messages replies reply.code
-post_refused start now patience messages replies reply not t = record {
-  reply = reply;
-  code_is = refl;
-  refused = not;
-  talked = subst (λ (ms : List Message). Talked start now patience ms (replies ++ reply ∷ [])) (append_assoc messages (post_message ∷ []) (quit_message ∷ [])) t;
-}
+    Talked start now patience ((messages ++ post_message ∷ []) ++ quit_message ∷ []) (replies ++ reply ∷ []) → (reply.code ≢ 340) × IsRefused start now patience messages post_message replies reply.code
+post_refused start now patience messages replies reply not t = (not, refused start now patience messages post_message replies reply reply.code refl t)
 
 pub post_refused_at_end : (start : Start) (now : Option (List LinkEvent)) (patience : ℕ) (messages : List Message) (out : List ℕ) (reason : Why) (replies : List Reply) (reply : Reply) → reply.code ≢ 340 →
-    Ends start now patience (messages ++ post_message ∷ []) out reason (replies ++ reply ∷ []) → IsRefused start now patience messages replies reply.code
-post_refused_at_end start now patience messages out reason replies reply not e =
-    post_refused start now patience messages replies reply not
-    (record { link = e.link; events = e.events; on_this = e.on_this; told = e.told; dialog = e.dialog (quit_message ∷ []) (lit< tt, tt) })
+    Ends start now patience (messages ++ post_message ∷ []) out reason (replies ++ reply ∷ []) → (reply.code ≢ 340) × IsRefused start now patience messages post_message replies reply.code
+post_refused_at_end start now patience messages out reason replies reply not e = (not, refused_at_end start now patience messages post_message out reason replies reply reply.code refl e)
 
 -- ---- the article
 

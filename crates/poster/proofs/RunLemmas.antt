@@ -1,19 +1,20 @@
 -- How a run of a post ends, from how its parts did.
 use Rattle.std.proofs.Common.{◌≡◌, ◌≤◌, ℕ, Bool, List, [], length, Option, Result, Ok, Err, ap, sym, subst, ◌∙◌, inr}
 use Rattle.std.specs.Prelude.{OnSome, IfSome, All}
-use Rattle.ub_base.specs.Causes.{Rose}
-use Rattle.ub_base.specs.declared.blame.Blame.{Blame}
-use Rattle.ub_base.specs.declared.links.LinkEvent.{LinkEvent}
+use Rattle.io_traits.specs.Causes.{Rose}
+use Rattle.io_traits.specs.declared.blame.Blame.{Blame}
+use Rattle.io_traits.specs.declared.links.LinkEvent.{LinkEvent}
 use Rattle.nntp_lines.specs.declared.login.Login.{Login}
 use Rattle.nntp_lines.specs.declared.why.Why.{Why}
 use Rattle.input_files.specs.Reading.{Reading, IsReadIn}
 use Rattle.input_files.proofs.ReadingLemmas.{from}
 use Rattle.link_dialog.specs.declared.dialog.Dialog.{Dialog}
+use Rattle.link_dialog.specs.Dialog.{answers_of}
 use Rattle.link_dialog.specs.Replies.{Reply}
 use Rattle.link_dialog.specs.Talk.{Start, IsOpen, Ends}
 use Rattle.poster.specs.Index.{AreOutcomes}
-use Rattle.poster.specs.Said.{Made, IsMade, ends_of, outcomes_of, answers_of, out_of, blocks_of}
-use Rattle.poster.specs.Session.{Session, Way, HasStopped, HasSent, WasOver, WasRefused, WasStopped, PostEnds, outcomes_in}
+use Rattle.poster.specs.Said.{Made, IsMade, ends_of, outcomes_of, out_of, blocks_of}
+use Rattle.poster.specs.Session.{Session, StopsAt, Way, HasStopped, HasSent, WasOver, WasRefused, WasStopped, PostEnds, outcomes_in}
 use Rattle.poster.specs.Posting.{NotMade, RunReads, UnderWay, error_of}
 use Rattle.poster.specs.declared.desk.Unmade.{Unmade}
 use Rattle.poster.specs.declared.desk.Unmade.TheVariants as unmade
@@ -82,3 +83,11 @@ sent_fits s size p content start now sent_list x = outcomes_fit _ s size p conte
 
 pub refused_fits : (s : Settings) (size : ℕ) (p : Plan) (content : Option (List ℕ)) (start : Start) (now : Option (List LinkEvent)) (code : ℕ) (sent_list : List Sent) → WasRefused s size (length p.parts) content start now code sent_list → AreOutcomes p sent_list
 refused_fits s size p content start now code sent_list x = outcomes_fit _ s size p content start now sent_list x.session x.outcomes
+
+-- ---- where it stopped
+
+pub sent_stops : (s : Settings) (size total : ℕ) (content : Option (List ℕ)) (start : Start) (now : Option (List LinkEvent)) (sent_list : List Sent) → HasSent s size total content start now sent_list → (part : ℕ) × StopsAt part sent_list
+sent_stops s size total content start now sent_list x = (length x.session.mades, x.stops)
+
+pub refused_stops : (s : Settings) (size total : ℕ) (content : Option (List ℕ)) (start : Start) (now : Option (List LinkEvent)) (code : ℕ) (sent_list : List Sent) → WasRefused s size total content start now code sent_list → (part : ℕ) × StopsAt part sent_list
+refused_stops s size total content start now code sent_list x = (length x.session.mades, x.stops)

@@ -6,8 +6,9 @@ use Rattle.std.proofs.lemmas.List.{length-append, map-append}
 use Rattle.std.proofs.lemmas.List.Concat.{flat_map-append}
 use Rattle.std.proofs.lemmas.List.Elements.{All-cons, All-nil}
 use Rattle.dot_blocks.specs.Blocks.{stuffed, stuffed_line}
-use Rattle.link_dialog.specs.Dialog.{Message, AreFull, all_bytes}
+use Rattle.link_dialog.specs.Dialog.{AreFull, all_bytes}
 use Rattle.link_dialog.specs.Replies.{Reply}
+use Rattle.link_dialog.proofs.Standing.{bytes-append}
 use Rattle.poster.specs.Article.{lines_of}
 use Rattle.poster.specs.Said.{Made, IsMade, AreMade, blocks_of, post_message, part_messages, messages_of, NoneEmpty, post_length, article_end, ends_of, refusal_in, outcomes_of}
 use Rattle.poster.specs.declared.index.PartEnd.{PartEnd}
@@ -45,13 +46,6 @@ blocks_more mades made = map-append (λ (m : Made). m.block) mades (made ∷ [])
 
 pub messages-append : (first second : List (List ℕ)) → messages_of (first ++ second) ≡ messages_of first ++ messages_of second
 messages-append first second = flat_map-append part_messages first second
-
-pub bytes-append : (first second : List Message) → all_bytes (first ++ second) ≡ all_bytes first ++ all_bytes second
-bytes-append first second = flat_map-append (λ (m : Message). m.bytes) first second
-
-pub full-append : (first second : List Message) → AreFull first → AreFull second → AreFull (first ++ second)
-full-append [] second one two = two
-full-append (message ∷ first) second one two = (one.0, full-append first second one.1 two)
 
 pub messages_full : (blocks : List (List ℕ)) → NoneEmpty blocks → AreFull (messages_of blocks)
 messages_full [] some = tt

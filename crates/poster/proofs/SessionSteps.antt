@@ -1,42 +1,33 @@
 -- The session of a post, part by part.
-use Rattle.std.proofs.Common.{◌≡◌, ◌≢◌, ◌<◌, ◌+◌, ◌-◌, ◌*◌, ◌≤◌, ◌==◌, ℕ, Bool, true, false, List, [], ◌∷◌, ◌++◌, Option, Some, None, refl, ap, sym, subst, ◌∙◌, append_assoc, append-nil, length, set, take, drop, arith, lit<, lit≤}
+use Rattle.std.proofs.Common.{◌≡◌, ◌≢◌, ◌<◌, ◌+◌, ◌-◌, ◌*◌, ◌≤◌, ◌==◌, ℕ, Bool, true, false, List, [], ◌∷◌, ◌++◌, Option, Some, None, refl, ap, sym, subst, ◌∙◌, append_assoc, append-nil, length, set, take, arith, lit<, lit≤}
 use Rattle.std.specs.Prelude.{nat_lt, slice_get, ◌&&◌}
 use Rattle.std.proofs.lemmas.Bool.{ne_eqb}
 use Rattle.std.proofs.lemmas.Bool.Decides.{nat_tests}
-use Rattle.std.proofs.lemmas.List.{length-append, length-drop, drop-append-le, length-map, nil_from_length, take_at}
-use Rattle.ub_base.specs.declared.links.LinkEvent.{LinkEvent}
-use Rattle.ub_base.specs.Trace.{sent}
+use Rattle.std.proofs.lemmas.List.{length-append, length-map, nil_from_length, take_at}
+use Rattle.io_traits.specs.declared.links.LinkEvent.{LinkEvent}
+use Rattle.io_traits.specs.Trace.{sent}
 use Rattle.nntp_lines.specs.declared.why.Why.{Why}
 use Rattle.link_dialog.specs.declared.dialog.Dialog.{Dialog}
-use Rattle.link_dialog.specs.Dialog.{Message, AreFull, all_bytes, asked_by, login_messages, answers_to, IsDialog}
+use Rattle.link_dialog.specs.Dialog.{Message, AreFull, all_bytes, asked_by, login_messages, answers_of, answers_to, IsDialog}
 use Rattle.link_dialog.specs.Moments.{why_over}
 use Rattle.link_dialog.specs.Replies.{Reply}
-use Rattle.link_dialog.specs.Talk.{Start, Rests, Ends, Talked, bytes_said, patience_of}
-use Rattle.poster.specs.Said.{Made, IsMade, AreMade, blocks_of, post_message, quit_message, part_messages, messages_of, NoneEmpty, post_length, part_end, is_permitted, ends_of, refusal_in, outcomes_of, answers_of, out_of}
-use Rattle.poster.specs.Session.{Session, whole, HasSent, WasOver, WasRefused, WasStopped}
-use Rattle.poster.specs.Posting.{IsAnswered, IsRefused, IsOverAt, IsUnsent, IsCut, UnderWay}
+use Rattle.link_dialog.specs.Talk.{Start, Rests, Ends, Talked, IsRefused, bytes_said, patience_of, quit_message}
+use Rattle.link_dialog.proofs.HeardCount.{whole_heard}
+use Rattle.link_dialog.proofs.Sessions.{answers_more, count_of_answers as count_of_replies, no_answers, no_answers_at_end}
+use Rattle.link_dialog.proofs.Standing.{bytes-append, full-append}
+use Rattle.poster.specs.Said.{Made, IsMade, AreMade, blocks_of, post_message, part_messages, messages_of, NoneEmpty, post_length, part_end, is_permitted, ends_of, refusal_in, outcomes_of, out_of}
+use Rattle.poster.specs.Session.{Session, whole, HasSent, StopsAt, WasOver, WasRefused, WasStopped}
+use Rattle.poster.specs.Posting.{IsAnswered, IsOverAt, IsUnsent, IsCut, UnderWay}
 use Rattle.poster.specs.declared.index.PartEnd.{PartEnd}
 use Rattle.poster.specs.declared.index.PartEnd.TheVariants.{NotSent}
 use Rattle.poster.specs.declared.index.Sent.{Sent}
 use Rattle.poster.specs.declared.settings.Settings.{Settings}
-use Rattle.poster.proofs.HeardLemmas.{few_heard, whole_heard}
-use Rattle.poster.proofs.SaidLemmas.{made_some, mades_some, made_more, blocks_more, messages-append, bytes-append, full-append, messages_full, count_of_messages, bytes_of_part, ends-append, count_of_ends, refusal-append, no_refusal, a_refusal, outcomes_more}
+use Rattle.poster.proofs.SaidLemmas.{made_some, mades_some, made_more, blocks_more, messages-append, messages_full, count_of_messages, bytes_of_part, ends-append, count_of_ends, refusal-append, no_refusal, a_refusal, outcomes_more}
+use Rattle.poster.proofs.StopLemmas.{stops_at}
 
--- ---- the replies behind those to the login
-
--- how many replies a dialog at rest has
-replies_at_rest : (start : Start) (now : Option (List LinkEvent)) (dialog : Dialog) (blocks : List (List ℕ)) (replies : List Reply) → Rests start now dialog (messages_of blocks) replies → length replies ≡ 1 + length (login_messages start.login replies) + 2 * length blocks
-replies_at_rest start now dialog blocks replies r =
-    omega (arith, r.stands.count, length-append (login_messages start.login replies) (messages_of blocks), count_of_messages blocks)
-
-answers_more : (start : Start) (now : Option (List LinkEvent)) (dialog : Dialog) (blocks : List (List ℕ)) (replies more : List Reply) → Rests start now dialog (messages_of blocks) replies → answers_of start.login (replies ++ more) ≡ answers_of start.login replies ++ more
-answers_more start now dialog blocks replies more r =
-    ap (λ l. drop (1 + length l) (replies ++ more)) (r.settled more)
-    ∙ drop-append-le (1 + length (login_messages start.login replies)) replies more (omega (arith, replies_at_rest start now dialog blocks replies r))
-
+-- two replies to each part
 count_of_answers : (start : Start) (now : Option (List LinkEvent)) (dialog : Dialog) (blocks : List (List ℕ)) (replies : List Reply) → Rests start now dialog (messages_of blocks) replies → length (answers_of start.login replies) ≡ 2 * length blocks
-count_of_answers start now dialog blocks replies r =
-    omega (arith, replies_at_rest start now dialog blocks replies r, length-drop (1 + length (login_messages start.login replies)) replies)
+count_of_answers start now dialog blocks replies r = count_of_replies start now dialog (messages_of blocks) replies r ∙ count_of_messages blocks
 
 -- ---- the next part's outcome
 
@@ -65,7 +56,7 @@ part_answered s size total content start then now dialog at part made end before
     let more : List Reply = a.permit ∷ a.answer ∷ [] in
     let blocks : List (List ℕ) = blocks_of u.mades in
     let same : length blocks ≡ length u.mades = length-map u.mades (λ (x : Made). x.block) in
-    let told : answers_of start.login (u.replies ++ more) ≡ answers_of start.login u.replies ++ more = answers_more start then dialog blocks u.replies more u.rests in
+    let told : answers_of start.login (u.replies ++ more) ≡ answers_of start.login u.replies ++ more = answers_more start then dialog (messages_of blocks) u.replies more u.rests in
     let count : length (answers_of start.login u.replies) ≡ 2 * length blocks = count_of_answers start then dialog blocks u.replies u.rests in
     let mades : List Made = u.mades ++ made ∷ [] in
     let out : ℕ = length (all_bytes (messages_of (blocks_of mades))) in
@@ -118,9 +109,7 @@ pub opening_over : (s : Settings) (size total : ℕ) (content : Option (List ℕ
 opening_over s size total content start now made out reason replies m few e =
     let login : List Message = login_messages start.login replies in
     let alone : IsDialog start.login [] s.patience e.events replies = e.dialog [] tt in
-    let heard : length replies ≤ length (login ++ []) + 1 = few_heard s.patience (login ++ []) e.events replies alone.answers in
-    let same : length (login ++ []) ≡ length login = ap length (append-nil login) in
-    let none : answers_of start.login replies ≡ [] = nil_from_length (answers_of start.login replies) (omega (arith, heard, same, length-drop (1 + length login) replies)) in
+    let none : answers_of start.login replies ≡ [] = no_answers_at_end start now s.patience out reason replies e in
     let front : length (sent e.events) ≤ length (all_bytes login) =
     omega (arith, ap length alone.dialog.front.1, length-append (sent e.events) alone.dialog.front.0, ap (λ (ms : List Message). length (all_bytes ms)) (append-nil login)) in
     let short : out_of start.login replies e.events ≤ post_length = omega (arith, front) in
@@ -198,7 +187,7 @@ over_ends s start now dialog messages block replies answers out reason is o = su
 
 permitted_all : (start : Start) (then : Option (List LinkEvent)) (dialog : Dialog) (blocks : List (List ℕ)) (replies more : List Reply) → Rests start then dialog (messages_of blocks) replies → refusal_in (answers_of start.login replies) ≡ None → refusal_in (answers_of start.login (replies ++ more)) ≡ refusal_in more
 permitted_all start then dialog blocks replies more r none =
-    ap (λ l. refusal_in l) (answers_more start then dialog blocks replies more r) ∙ refusal-append (answers_of start.login replies) more (length blocks) (count_of_answers start then dialog blocks replies r) none
+    ap (λ l. refusal_in l) (answers_more start then dialog (messages_of blocks) replies more r) ∙ refusal-append (answers_of start.login replies) more (length blocks) (count_of_answers start then dialog blocks replies r) none
 
 -- the outcomes of all parts, where the next one ended so
 noted_last : (s : Settings) (size total : ℕ) (content : Option (List ℕ)) (start : Start) (then : Option (List LinkEvent)) (dialog : Dialog) (at part out : ℕ) (made : Made) (end : PartEnd) (more : List Reply) (before after : List Sent) →
@@ -212,7 +201,23 @@ noted_last s size total content start then dialog at part out made end more befo
     let same : length blocks ≡ length u.mades = length-map u.mades (λ (x : Made). x.block) in
     noted_next total at out _ (answers_of start.login u.replies) more u.mades made end before after (omega (arith, count_of_answers start then dialog blocks u.replies u.rests, same)) u.count (omega (arith, n.next, n.last)) u.noted set_is
     (ap (λ (e : PartEnd). e ∷ []) (sym is))
-    ∙ ap (λ l. outcomes_of total (ends_of l out (blocks_of mades)) mades) (sym (answers_more start then dialog blocks u.replies more u.rests))
+    ∙ ap (λ l. outcomes_of total (ends_of l out (blocks_of mades)) mades) (sym (answers_more start then dialog (messages_of blocks) u.replies more u.rests))
+
+-- the run stops at the part whose article was the last that was made
+last_stops : (s : Settings) (size total : ℕ) (content : Option (List ℕ)) (start : Start) (then : Option (List LinkEvent)) (dialog : Dialog) (at part out : ℕ) (made : Made) (more : List Reply) (before after : List Sent) →
+    (n : IsNext s size total content start then dialog at part made before) →
+    after ≡ outcomes_of total (ends_of (answers_of start.login (n.under_way.replies ++ more)) out (blocks_of (n.under_way.mades ++ made ∷ []))) (n.under_way.mades ++ made ∷ []) →
+    StopsAt (length (n.under_way.mades ++ made ∷ [])) after
+last_stops s size total content start then dialog at part out made more before after n is =
+    let u = n.under_way in
+    let blocks : List (List ℕ) = blocks_of u.mades in
+    let mades : List Made = u.mades ++ made ∷ [] in
+    let answers : List Reply = answers_of start.login u.replies in
+    let all : length (answers_of start.login (u.replies ++ more)) ≡ length answers + length more = ap length (answers_more start then dialog (messages_of blocks) u.replies more u.rests) ∙ length-append answers more in
+    let before_it : length answers ≡ 2 * length blocks = count_of_answers start then dialog blocks u.replies u.rests in
+    let same : length blocks ≡ length u.mades = length-map u.mades (λ (x : Made). x.block) in
+    let count : length mades ≡ length u.mades + 1 = length-append u.mades (made ∷ []) in
+    stops_at total out (answers_of start.login (u.replies ++ more)) mades after (omega (arith, count)) (omega (arith, count, u.count, n.next, n.last)) (omega (arith, all, before_it, same, count)) is
 
 part_over : (s : Settings) (size total : ℕ) (content : Option (List ℕ)) (start : Start) (then now : Option (List LinkEvent)) (dialog : Dialog) (at part : ℕ) (made : Made) (end : PartEnd) (answers : List Reply) (out : List ℕ) (reason : Why) (before after : List Sent) →
     (n : IsNext s size total content start then dialog at part made before) → after ≡ set before at (record { end = end; bytes = made.octets }) →
@@ -228,13 +233,15 @@ part_over s size total content start then now dialog at part made end answers ou
     let count : length mades ≡ part = omega (arith, length-append u.mades (made ∷ []), u.count, n.next) in
     let all_out : out_of start.login (u.replies ++ answers) e.events ≡ before_it + length out = out_at_end start then dialog blocks u.replies answers out e.events u.rests e.bytes in
     let own_out : length out ≡ out_of start.login (u.replies ++ answers) e.events - before_it = omega (arith, all_out) in
+    let noted = noted_last s size total content start then dialog at part (out_of start.login (u.replies ++ answers) e.events) made end answers before after n set_is
+    (is ∙ ap (λ k. part_end (slice_get answers 1) (is_permitted answers && nat_lt post_length k)) own_out) in
     record {
       session = session_over s size total content start now mades (messages_of blocks ++ part_messages made.block) rest_said (bytes_said start (messages_of blocks) u.replies ++ out) reason (u.replies ++ answers)
           (next_made s size total content start then dialog at part made before n) (omega (arith, count, n.next)) (omega (arith, count, n.last)) (rest_same u.mades made) rest_full e;
       permitted = permitted_all start then dialog blocks u.replies answers u.rests u.permitted ∙ o.permitted;
       begun = omega (arith, begun, all_out);
-      outcomes = noted_last s size total content start then dialog at part (out_of start.login (u.replies ++ answers) e.events) made end answers before after n set_is
-          (is ∙ ap (λ k. part_end (slice_get answers 1) (is_permitted answers && nat_lt post_length k)) own_out);
+      outcomes = noted;
+      stops = last_stops s size total content start then dialog at part (out_of start.login (u.replies ++ answers) e.events) made answers before after n noted;
     }
 
 pub part_cut : (s : Settings) (size total : ℕ) (content : Option (List ℕ)) (start : Start) (then now : Option (List LinkEvent)) (dialog : Dialog) (at part : ℕ) (made : Made) (end : PartEnd) (before after : List Sent) →
@@ -275,19 +282,22 @@ first_unsent s size total content start then now dialog at part made reason befo
 
 pub part_refused : (s : Settings) (size total : ℕ) (content : Option (List ℕ)) (start : Start) (then now : Option (List LinkEvent)) (dialog : Dialog) (at part : ℕ) (made : Made) (code : ℕ) (before after : List Sent) →
     (n : IsNext s size total content start then dialog at part made before) → after ≡ set before at (record { end = NotSent; bytes = made.octets }) →
-    IsRefused start now (patience_of dialog) (messages_of (blocks_of n.under_way.mades)) n.under_way.replies code → WasRefused s size total content start now code after
-part_refused s size total content start then now dialog at part made code before after n set_is x =
+    code ≢ 340 → IsRefused start now (patience_of dialog) (messages_of (blocks_of n.under_way.mades)) post_message n.under_way.replies code → WasRefused s size total content start now code after
+part_refused s size total content start then now dialog at part made code before after n set_is other x =
     let u = n.under_way in
     let blocks : List (List ℕ) = blocks_of u.mades in
     let mades : List Made = u.mades ++ made ∷ [] in
     let more : List Reply = x.reply ∷ [] in
     let count : length mades ≡ part = omega (arith, length-append u.mades (made ∷ []), u.count, n.next) in
     let t = x.talked in
-    let not : x.reply.code ≢ 340 = λ e. x.refused (sym x.code_is ∙ e) in
+    let not : x.reply.code ≢ 340 = λ e. other (sym x.code_is ∙ e) in
     let differs : (x.reply.code == 340) ≡ false = ne_eqb x.reply.code 340 not in
     let cut : length blocks ≡ length (blocks ++ made.block ∷ []) - 1 = omega (arith, length-append blocks (made.block ∷ [])) in
     let but_last : blocks ≡ take (length (blocks_of mades) - 1) (blocks_of mades) = sym (ap (λ l. take (length l - 1) l) (blocks_more u.mades made) ∙ take_at blocks (made.block ∷ []) (length (blocks ++ made.block ∷ []) - 1) cut) in
-    let said = subst (λ (p : ℕ). IsDialog start.login (messages_of blocks ++ post_message ∷ quit_message ∷ []) p t.events (u.replies ++ more)) u.patience t.dialog in
+    let said = subst (λ (p : ℕ). IsDialog start.login (messages_of blocks ++ post_message ∷ quit_message ∷ []) p t.events (u.replies ++ more)) u.patience
+    (subst (λ (ms : List Message). IsDialog start.login ms (patience_of dialog) t.events (u.replies ++ more)) (append_assoc (messages_of blocks) (post_message ∷ []) (quit_message ∷ [])) t.dialog) in
+    let noted = noted_last s size total content start then dialog at part (out_of start.login (u.replies ++ more) t.events) made NotSent more before after n set_is
+    (sym (no_permit (x.reply.code == 340) (nat_lt post_length (out_of start.login (u.replies ++ more) t.events - length (all_bytes (messages_of blocks)))) differs)) in
     record {
       session = record {
         mades = mades;
@@ -302,8 +312,8 @@ part_refused s size total content start then now dialog at part made code before
         said = subst (λ (l : List (List ℕ)). IsDialog start.login (messages_of l ++ post_message ∷ quit_message ∷ []) s.patience t.events (u.replies ++ more)) but_last said;
       };
       refusal = permitted_all start then dialog blocks u.replies more u.rests u.permitted ∙ a_refusal x.reply not ∙ ap (λ k. Some k) x.code_is;
-      outcomes = noted_last s size total content start then dialog at part (out_of start.login (u.replies ++ more) t.events) made NotSent more before after n set_is
-          (sym (no_permit (x.reply.code == 340) (nat_lt post_length (out_of start.login (u.replies ++ more) t.events - length (all_bytes (messages_of blocks)))) differs));
+      outcomes = noted;
+      stops = last_stops s size total content start then dialog at part (out_of start.login (u.replies ++ more) t.events) made more before after n noted;
     }
 
 -- ---- QUIT
@@ -331,6 +341,8 @@ all_quit s size total content start then now dialog done sent_list u all some t 
     let went : length (all_bytes first) ≤ length (sent t.events) = whole_heard s.patience first (quit_message ∷ []) t.events u.replies heard count in
     let both : length (all_bytes first) ≡ length (all_bytes login) + length (all_bytes (messages_of blocks)) = ap length (bytes-append login (messages_of blocks)) ∙ length-append (all_bytes login) (all_bytes (messages_of blocks)) in
     let parts : post_length < length (all_bytes (messages_of blocks)) = some_out blocks (mades_some s size content 1 u.mades u.are_made) (omega (arith, same, u.count, all, some)) in
+    let answers = count_of_answers start then dialog blocks u.replies u.rests in
+    let noted : sent_list ≡ outcomes_of total (ends_of (answers_of start.login u.replies) (out_of start.login u.replies t.events) blocks) u.mades = u.noted ∙ ap (λ (ends : List PartEnd). outcomes_of total ends u.mades) (ends_any (answers_of start.login u.replies) _ (out_of start.login u.replies t.events) blocks answers) in
     record {
       session = record {
         mades = u.mades;
@@ -346,13 +358,14 @@ all_quit s size total content start then now dialog done sent_list u all some t 
       };
       permitted = u.permitted;
       begun = omega (arith, went, both, parts);
-      outcomes = u.noted ∙ ap (λ (ends : List PartEnd). outcomes_of total ends u.mades) (ends_any (answers_of start.login u.replies) _ (out_of start.login u.replies t.events) blocks (count_of_answers start then dialog blocks u.replies u.rests));
+      outcomes = noted;
+      stops = stops_at total (out_of start.login u.replies t.events) (answers_of start.login u.replies) u.mades sent_list (omega (arith, u.count, all, some)) (omega (arith, u.count, all)) (omega (arith, answers, same)) noted;
     }
 
 -- the next part isn't made
-pub part_stopped : (s : Settings) (size total : ℕ) (content : Option (List ℕ)) (start : Start) (then now : Option (List LinkEvent)) (dialog : Dialog) (done : ℕ) (sent_list : List Sent) → (u : UnderWay s size total content start then dialog done sent_list) → 1 ≤ done → done ≤ total →
+pub part_stopped : (s : Settings) (size total : ℕ) (content : Option (List ℕ)) (start : Start) (then now : Option (List LinkEvent)) (dialog : Dialog) (done : ℕ) (sent_list : List Sent) → (u : UnderWay s size total content start then dialog done sent_list) → 1 ≤ done → done < total →
     Talked start now (patience_of dialog) (messages_of (blocks_of u.mades) ++ quit_message ∷ []) u.replies → WasStopped s size total content start now
-part_stopped s size total content start then now dialog done sent_list u some few t =
+part_stopped s size total content start then now dialog done sent_list u some more t =
     let blocks : List (List ℕ) = blocks_of u.mades in
     let same : length blocks ≡ length u.mades = length-map u.mades (λ (m : Made). m.block) in
     record {
@@ -360,7 +373,7 @@ part_stopped s size total content start then now dialog done sent_list u some fe
         mades = u.mades;
         are_made = u.are_made;
         some = omega (arith, u.count, some);
-        few = omega (arith, u.count, few);
+        few = omega (arith, u.count, more);
         link = t.link;
         events = t.events;
         replies = u.replies;
@@ -368,6 +381,7 @@ part_stopped s size total content start then now dialog done sent_list u some fe
         told = t.told;
         said = subst (λ (p : ℕ). IsDialog start.login (messages_of blocks ++ quit_message ∷ []) p t.events u.replies) u.patience t.dialog;
       };
+      more = omega (arith, u.count, more);
       permitted = u.permitted;
       answered = omega (arith, count_of_answers start then dialog blocks u.replies u.rests, same);
     }
@@ -377,7 +391,7 @@ part_stopped s size total content start then now dialog done sent_list u some fe
 -- a dialog was opened, and no part was posted
 pub begins : (s : Settings) (size total : ℕ) (content : Option (List ℕ)) (start : Start) (now : Option (List LinkEvent)) (dialog : Dialog) (replies : List Reply) (sent_list : List Sent) → patience_of dialog ≡ s.patience → Rests start now dialog [] replies → sent_list ≡ outcomes_of total [] [] → UnderWay s size total content start now dialog 0 sent_list
 begins s size total content start now dialog replies sent_list patience r is =
-    let none : answers_of start.login replies ≡ [] = nil_from_length (answers_of start.login replies) (count_of_answers start now dialog [] replies r) in
+    let none : answers_of start.login replies ≡ [] = no_answers start now dialog replies r in
     record {
       patience = patience;
       mades = [];

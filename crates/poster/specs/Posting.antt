@@ -1,13 +1,13 @@
 -- The steps of a post's session: one part made, one article posted, and all parts in turn.
 use Rattle.std.specs.Prelude.{◌≡◌, ◌≢◌, ℕ, ◌≤◌, ◌<◌, Bool, true, List, [], ◌∷◌, ◌++◌, length, slice_get, Option, Some, None, Result, Ok, Err, ⊤}
-use Rattle.ub_base.specs.declared.links.LinkEvent.{LinkEvent}
+use Rattle.io_traits.specs.declared.links.LinkEvent.{LinkEvent}
 use Rattle.nntp_lines.specs.declared.why.Why.{Why}
 use Rattle.input_files.specs.Reading.{Reading, IsFaultless, HasFailed, IsReadIn, IsShortAt, IsIn}
 use Rattle.link_dialog.specs.declared.dialog.Dialog.{Dialog}
-use Rattle.link_dialog.specs.Dialog.{Message, all_bytes}
+use Rattle.link_dialog.specs.Dialog.{Message, all_bytes, answers_of}
 use Rattle.link_dialog.specs.Replies.{Reply}
-use Rattle.link_dialog.specs.Talk.{Start, Rests, Ends, Talked, bytes_said, patience_of}
-use Rattle.poster.specs.Said.{Made, AreMade, blocks_of, post_message, article_message, quit_message, part_messages, messages_of, post_length, article_end, part_end, is_permitted, ends_of, refusal_in, outcomes_of, answers_of}
+use Rattle.link_dialog.specs.Talk.{Start, Rests, Ends, IsRefused, bytes_said, patience_of}
+use Rattle.poster.specs.Said.{Made, AreMade, blocks_of, post_message, article_message, part_messages, messages_of, post_length, article_end, part_end, is_permitted, ends_of, refusal_in, outcomes_of}
 use Rattle.poster.specs.Session.{HasSent, WasOver, WasRefused, WasStopped}
 use Rattle.poster.specs.declared.desk.Desk.{Desk}
 use Rattle.poster.specs.declared.desk.Unmade.{Unmade}
@@ -53,13 +53,6 @@ pub record IsAnswered (start : Start) (now : Option (List LinkEvent)) (dialog : 
   pub end_is : end ≡ article_end answer.code
   pub rests : Rests start now dialog (messages ++ part_messages block) (replies ++ permit ∷ answer ∷ [])
 
--- POST was refused with this code, and QUIT was said
-pub record IsRefused (start : Start) (now : Option (List LinkEvent)) (patience : ℕ) (messages : List Message) (replies : List Reply) (code : ℕ) : Type 0 where
-  pub reply : Reply
-  pub code_is : reply.code ≡ code
-  pub refused : code ≢ 340
-  pub talked : Talked start now patience (messages ++ post_message ∷ quit_message ∷ []) (replies ++ reply ∷ [])
-
 -- the link is over for this reason, after these bytes of POST and the article went out and these replies to them were heard
 pub record IsOverAt (start : Start) (now : Option (List LinkEvent)) (patience : ℕ) (messages : List Message) (block : List ℕ) (replies answers : List Reply) (out : List ℕ) (reason : Why) : Type 0 where
   pub permitted : refusal_in answers ≡ None
@@ -85,7 +78,7 @@ pub record IsCut (start : Start) (now : Option (List LinkEvent)) (patience : ℕ
 
 abbrev pub IsPosting : Start → Option (List LinkEvent) → Dialog → List Message → List ℕ → List Reply → Posting → Type 0
 IsPosting start now dialog messages block replies (posting.Answered end) = IsAnswered start now dialog messages block replies end
-IsPosting start now dialog messages block replies (posting.Refused code) = IsRefused start now (patience_of dialog) messages replies code
+IsPosting start now dialog messages block replies (posting.Refused code) = (code ≢ 340) × IsRefused start now (patience_of dialog) messages post_message replies code
 IsPosting start now dialog messages block replies (posting.Unsent reason) = IsUnsent start now (patience_of dialog) messages block replies reason
 IsPosting start now dialog messages block replies (posting.Cut end) = IsCut start now (patience_of dialog) messages block replies end
 

@@ -1,14 +1,14 @@
 -- What is said over a link to post a file (RFC 3977, 6.3.1), and what the replies say of its parts.
 use Rattle.std.specs.Prelude.{◌≡◌, ℕ, suc, zero, ◌+◌, ◌-◌, ◌==◌, ◌≤◌, ◌<◌, ◌&&◌, Bool, false, nat_lt, if◌then◌else◌, List, [], ◌∷◌, ◌++◌, length, map, drop, slice_get, Option, Some, None}
 use Rattle.std.specs.List.{flat_map, AllByRecursion}
-use Rattle.ub_base.specs.declared.links.LinkEvent.{LinkEvent}
-use Rattle.ub_base.specs.Trace.{sent}
-use Rattle.nntp_lines.specs.Command.{crlf, post_line, quit_line}
+use Rattle.io_traits.specs.declared.links.LinkEvent.{LinkEvent}
+use Rattle.io_traits.specs.Trace.{sent}
+use Rattle.nntp_lines.specs.Command.{crlf, post_line}
 use Rattle.nntp_lines.specs.declared.login.Login.{Login}
 use Rattle.input_files.specs.Reading.{IsPiece}
 use Rattle.dot_blocks.specs.Blocks.{stuffed}
 use Rattle.yenc_body.specs.Parts.{part_length, part_place}
-use Rattle.link_dialog.specs.declared.awaited.Awaited.TheVariants.{Post, Article as TheArticle, Quit}
+use Rattle.link_dialog.specs.declared.awaited.Awaited.TheVariants.{Post, Article as TheArticle}
 use Rattle.link_dialog.specs.Dialog.{Message, message_of, all_bytes, login_messages}
 use Rattle.link_dialog.specs.Replies.{Reply}
 use Rattle.poster.specs.Article.{Article, IsArticle, lines_of, octets_of}
@@ -50,9 +50,6 @@ post_message = message_of Post (post_line ++ crlf)
 
 abbrev pub article_message : List ℕ → Message
 article_message block = message_of TheArticle block
-
-abbrev pub quit_message : Message
-quit_message = message_of Quit (quit_line ++ crlf)
 
 -- a part: POST, and its article as a block
 abbrev pub part_messages : List ℕ → List Message
@@ -106,10 +103,6 @@ outcomes_of zero ends mades = []
 outcomes_of (suc n) (end ∷ ends) (made ∷ mades) = record { end = end; bytes = made.octets } ∷ outcomes_of n ends mades
 outcomes_of (suc n) [] mades = record { end = NotSent; bytes = 0 } ∷ outcomes_of n [] []
 outcomes_of (suc n) (end ∷ ends) [] = record { end = NotSent; bytes = 0 } ∷ outcomes_of n [] []
-
--- the replies to the messages behind the login, in order
-abbrev pub answers_of : Option Login → List Reply → List Reply
-answers_of login replies = drop (1 + length (login_messages login replies)) replies
 
 -- how many bytes went out behind those of the login
 abbrev pub out_of : Option Login → List Reply → List LinkEvent → ℕ

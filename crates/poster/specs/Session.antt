@@ -1,21 +1,21 @@
 -- The session of a post: one link, and what became of each part (RFC 3977, 6.3.1).
-use Rattle.std.specs.Prelude.{◌≡◌, ℕ, ◌+◌, ◌-◌, ◌*◌, ◌≤◌, ◌<◌, ◌⊎◌, List, [], ◌∷◌, ◌++◌, length, take, Option, Some, None, Result, Ok, Err, ⊤}
-use Rattle.ub_base.specs.declared.links.LinkEvent.{LinkEvent}
-use Rattle.ub_base.specs.declared.links.LinkEvent.TheVariants.{Opened}
-use Rattle.ub_base.specs.declared.blame.Blame.{Blame}
-use Rattle.ub_base.specs.declared.blame.Blame.TheVariants as blames
-use Rattle.ub_base.specs.Causes.{Rose, BlamesNamed}
-use Rattle.ub_base.specs.Links.{tell}
+use Rattle.std.specs.Prelude.{◌≡◌, ℕ, ◌+◌, ◌-◌, ◌*◌, ◌≤◌, ◌<◌, ◌⊎◌, List, [], ◌∷◌, ◌++◌, length, take, drop, Option, Some, None, Result, Ok, Err, ⊤}
+use Rattle.std.specs.List.{AllByRecursion}
+use Rattle.io_traits.specs.declared.links.LinkEvent.{LinkEvent}
+use Rattle.io_traits.specs.declared.links.LinkEvent.TheVariants.{Opened}
+use Rattle.io_traits.specs.Links.{tell}
 use Rattle.nntp_lines.specs.declared.login.Login.{Login}
 use Rattle.nntp_lines.specs.declared.why.Why.{Why}
 use Rattle.input_files.specs.Reading.{Reading, IsFaultless, HasFailed, IsReadIn, IsShortAt, IsIn}
-use Rattle.link_dialog.specs.Dialog.{asked_by, login_messages, IsDialog}
+use Rattle.link_dialog.specs.Dialog.{answers_of, asked_by, login_messages, IsDialog}
 use Rattle.link_dialog.specs.Events.{AllOn}
 use Rattle.link_dialog.specs.Moments.{why_over}
 use Rattle.link_dialog.specs.Replies.{Reply}
-use Rattle.link_dialog.specs.Talk.{Start}
+use Rattle.link_dialog.specs.Talk.{Start, quit_message}
 use Rattle.poster.specs.Index.{AreOutcomes}
-use Rattle.poster.specs.Said.{Made, AreMade, blocks_of, post_message, quit_message, messages_of, NoneEmpty, post_length, ends_of, refusal_in, outcomes_of, answers_of, out_of}
+use Rattle.poster.specs.Said.{Made, AreMade, blocks_of, post_message, messages_of, NoneEmpty, post_length, ends_of, refusal_in, outcomes_of, out_of}
+use Rattle.poster.specs.declared.index.PartEnd.{PartEnd}
+use Rattle.poster.specs.declared.index.PartEnd.TheVariants as part_end
 use Rattle.poster.specs.declared.index.Sent.{Sent}
 use Rattle.poster.specs.declared.parts.Plan.{Plan}
 use Rattle.poster.specs.declared.session.PostError.{PostError}
@@ -66,14 +66,39 @@ refusal_of_post {way} {s} {size} {total} {content} {start} {now} x = refusal_in 
 abbrev pub HasBegun : {way : Way} {s : Settings} {size total : ℕ} {content : Option (List ℕ)} {start : Start} {now : Option (List LinkEvent)} → Session way s size total content start now → Type 0
 HasBegun {way} {s} {size} {total} {content} {start} {now} x = post_length < out_of start.login x.replies x.events
 
+-- ---- where it stopped
+
+-- an article has its answer: 240, or 441
+abbrev pub IsAnswer : PartEnd → Type 0
+IsAnswer part_end.Posted = ⊤
+IsAnswer (part_end.Refused code) = ⊤
+IsAnswer part_end.Unsure = ⊥
+IsAnswer part_end.NotSent = ⊥
+
+abbrev pub HasAnswer : Sent → Type 0
+HasAnswer sent = IsAnswer sent.end
+
+-- nothing of it was sent, and no octets are told of it
+abbrev pub IsUnreached : Sent → Type 0
+IsUnreached sent = (sent.end ≡ part_end.NotSent) × (sent.bytes ≡ 0)
+
+-- The run stopped at this part, counted from 1, whatever became of it: each part before it has its answer, and none behind it
+-- was reached.
+pub record StopsAt (part : ℕ) (sent : List Sent) : Type 0 where
+  pub first : 1 ≤ part
+  pub last : part ≤ length sent
+  pub answered : AllByRecursion HasAnswer (take (part - 1) sent)
+  pub unreached : AllByRecursion IsUnreached (drop part sent)
+
 -- ---- how it ends
 
--- the session went its way, and this became of the parts
+-- The session went its way, and this became of the parts. It stopped at the part whose article was the last that was made.
 pub record HasSent (s : Settings) (size total : ℕ) (content : Option (List ℕ)) (start : Start) (now : Option (List LinkEvent)) (sent : List Sent) : Type 0 where
   pub session : Session whole s size total content start now
   pub permitted : refusal_of_post session ≡ None
   pub begun : HasBegun session
   pub outcomes : sent ≡ outcomes_in session
+  pub stops : StopsAt (length session.mades) sent
 
 -- the link was over, for this reason, before a byte of any article went out
 pub record WasOver (s : Settings) (size total : ℕ) (content : Option (List ℕ)) (start : Start) (now : Option (List LinkEvent)) (reason : Why) : Type 0 where
@@ -83,19 +108,22 @@ pub record WasOver (s : Settings) (size total : ℕ) (content : Option (List ℕ
   pub over : (more : List (List ℕ)) → NoneEmpty more → length session.mades + length more ≡ total →
       why_over s.patience (asked_by (login_messages start.login session.replies ++ (messages_of (blocks_of session.mades ++ more) ++ quit_message ∷ []))) session.events ≡ Some reason
 
--- POST was refused with this code, and this became of the parts
+-- POST of the last part whose article was made was refused with this code, and this became of the parts.
 pub record WasRefused (s : Settings) (size total : ℕ) (content : Option (List ℕ)) (start : Start) (now : Option (List LinkEvent)) (code : ℕ) (sent : List Sent) : Type 0 where
   pub session : Session refused s size total content start now
   pub refusal : refusal_of_post session ≡ Some code
   pub outcomes : sent ≡ outcomes_in session
+  pub stops : StopsAt (length session.mades) sent
 
--- the session stopped behind a part: each part whose article was made has its answer
+-- The session stopped before a part: each part before it has its answer, POST was refused for none, and nothing was said of
+-- the part.
 pub record WasStopped (s : Settings) (size total : ℕ) (content : Option (List ℕ)) (start : Start) (now : Option (List LinkEvent)) : Type 0 where
   pub session : Session stopped s size total content start now
+  pub more : length session.mades < total
   pub permitted : refusal_of_post session ≡ None
   pub answered : length (answers_of start.login session.replies) ≡ 2 * length session.mades
 
--- no link was opened, or the session stopped behind a part
+-- a part could not be read or made: the first, and no link was opened; or a later one, before which the session stopped
 abbrev pub HasStopped : Settings → (size total : ℕ) → Option (List ℕ) → Start → Option (List LinkEvent) → Type 0
 HasStopped s size total content start now = (now ≡ start.before) ⊎ WasStopped s size total content start now
 
@@ -109,11 +137,16 @@ PostEnds s size total content r start now (Err NoLink) = IsFaultless r × (now �
 PostEnds s size total content r start now (Err (Refused code sent)) = IsFaultless r × WasRefused s size total content start now code sent
 PostEnds s size total content r start now (Err (Over reason)) = IsFaultless r × WasOver s size total content start now reason
 
--- that no link was opened comes only where the opening failed
-abbrev pub NoLinkHasCause : {T : Type 0} → (before now : ℕ) → (blame_before blame_now : Option (Option Blame)) → List ℕ → Result T PostError → Type 0
-NoLinkHasCause before now blame_before blame_now address (Err NoLink) =
-    Rose before now × BlamesNamed {T = ℕ} {E = ℕ} blame_before blame_now (blames.Open address) (Err 0)
-NoLinkHasCause before now blame_before blame_now address other = ⊤
+-- a fact where no link was opened
+abbrev pub OnNoLink : {T : Type 0} → Result T PostError → Type 0 → Type 0
+OnNoLink (Err NoLink) fact = fact
+OnNoLink other fact = ⊤
+
+-- a list that is answered says at which part the run stopped
+abbrev pub StopsSomewhere : Result (List Sent) PostError → Type 0
+StopsSomewhere (Ok sent) = (part : ℕ) × StopsAt part sent
+StopsSomewhere (Err (Refused code sent)) = (part : ℕ) × StopsAt part sent
+StopsSomewhere (Err other) = ⊤
 
 -- a list that is answered has an outcome for each part of a plan
 abbrev pub HasOutcomes : Plan → Result (List Sent) PostError → Type 0

@@ -5,8 +5,9 @@ use Rattle.yenc_body.specs.Parts.{parts_of}
 use Rattle.link_dialog.specs.declared.awaited.Awaited.{Awaited}
 use Rattle.link_dialog.specs.declared.awaited.Awaited.TheVariants.{Article as TheArticle}
 use Rattle.link_dialog.specs.Dialog.{Message}
+use Rattle.link_dialog.specs.Talk.{quit_message}
 use Rattle.poster.specs.Article.{Article, AreArticles, lines_of}
-use Rattle.poster.specs.Said.{Made, AreMade, blocks_of, messages_of, quit_message}
+use Rattle.poster.specs.Said.{Made, AreMade, blocks_of, messages_of}
 use Rattle.poster.specs.declared.settings.Settings.{Settings}
 
 -- the blocks of the articles among some messages

@@ -3,6 +3,7 @@ use Rattle.std.specs.Prelude.{◌≤◌}
 use Rattle.article_head.specs.Field.{IsComment, IsFileName, IsFrom, IsNewsgroups}
 use Rattle.article_head.specs.PartId.{IsDomain, IsToken}
 use Rattle.poster.specs.declared.settings.Settings.{Settings}
+use Rattle.limits.specs.declared.TheConstants.{MOST_PART_BYTES}
 
 -- the fields say what they may; the address of the server may be any
 pub record AreSettings (s : Settings) : Type 0 where
@@ -15,6 +16,6 @@ pub record AreSettings (s : Settings) : Type 0 where
   pub line_least : 64 ≤ s.line
   pub line_most : s.line ≤ 997
   pub part_size_least : 1 ≤ s.part_size
-  pub part_size_most : s.part_size ≤ 16777216
+  pub part_size_most : s.part_size ≤ MOST_PART_BYTES
   pub patience_least : 1 ≤ s.patience
   pub patience_most : s.patience ≤ 100000

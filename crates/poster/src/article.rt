@@ -9,8 +9,8 @@ ghost use Rattle.poster.specs.Settings.{AreSettings};
 use crate::{Plan, Settings};
 use article_head::{Head, write_head};
 use dot_blocks::stuff;
+use lists::{Bytes, Lines, Memory};
 use nntp_lines::MessageId;
-use ub_base::{Bytes, Lines, Memory};
 use yenc_body::{BodySpec, write_body};
 
 /// Makes the article of a part, counted from 1, of the part's bytes: its lines, and the block of them as it is sent

@@ -8,8 +8,9 @@ ghost use Rattle.poster.specs.Settings.{AreSettings};
 
 use crate::{Plan, Settings, write_article};
 use input_files::{ReadError, read_part_into};
+use io_traits::Input;
+use lists::{Bytes, Lines};
 use std::alloc::Global;
-use ub_base::{Bytes, Input, Lines};
 
 // The bytes of a part, and its article, in room that serves again.
 #[derive(Drop)]
@@ -48,8 +49,8 @@ pub(crate) fn make_part<I: Input>(
     settings: &Settings,
     plan: &Plan,
     part: u32,
-    desk: &mut Desk,
     input: &mut I,
+    desk: &mut Desk,
 ) -> Result<(), Unmade>
     requires settings { AreSettings settings.now }
     requires plan { IsPlanOf settings.now plan.now.size plan.now }

@@ -5,12 +5,13 @@ ghost use Rattle.article_head.specs.Field.{names_of};
 ghost use Rattle.poster.specs.Index.{AreOutcomes, IndexesArticles, entry_of, index_of, segments_from};
 ghost use Rattle.poster.specs.Plan.{IsPlanOf};
 ghost use Rattle.poster.specs.Settings.{AreSettings};
+ghost use Rattle.limits.specs.declared.TheConstants.{MOST_SEGMENTS};
 
 use crate::{Plan, PlanPart, Settings};
 use article_head::write_subject;
+use lists::{Bytes, List, Memory, bytes_of};
 use nzb_index::{FileEntry, Index, Segment};
 use std::alloc::Global;
-use ub_base::{Bytes, List, Memory};
 
 /// What became of a part.
 #[derive(Clone, Copy, Debug, PartialEq, Eq)]
@@ -89,14 +90,6 @@ fn entry_of(
     })
 }
 
-fn bytes_of(alloc: Global, text: &[u8]) -> Result<Bytes, Memory>
-    ensures { IfOk result (λ bytes. bytes ≡ text.now) }
-{
-    let mut bytes = Bytes::new(alloc);
-    bytes.extend(text)?;
-    Ok(bytes)
-}
-
 // The names in a list of newsgroups.
 fn groups_of(alloc: Global, newsgroups: &[u8]) -> Result<List<Bytes>, Memory>
     ensures { IfOk result (λ groups. groups ≡ names_of newsgroups.now) }
@@ -110,7 +103,7 @@ fn groups_of(alloc: Global, newsgroups: &[u8]) -> Result<List<Bytes>, Memory>
 
 fn segments_of(alloc: Global, parts: &[PlanPart], sent: &[Sent]) -> Result<List<Segment>, Memory>
     requires same { length parts.now ≡ length sent.now }
-    requires few { length parts.now ≤ 262144 }
+    requires few { length parts.now ≤ MOST_SEGMENTS }
     ensures { IfOk result (λ segments. segments ≡ segments_from 1 parts.now sent.now) }
 {
     let mut segments = List::new(alloc);

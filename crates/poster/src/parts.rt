@@ -1,6 +1,6 @@
 // The parts that a file is posted in.
+use lists::List;
 use nntp_lines::MessageId;
-use ub_base::List;
 
 /// The parts that a file is posted in.
 #[derive(Drop)]

@@ -1,6 +1,6 @@
 // One article posted over a link (RFC 3977, 6.3.1).
 ghost use Rattle.std.specs.Prelude.{◌≡◌, ◌<◌, length, slice_get, Some, true, List, Option};
-ghost use Rattle.ub_base.specs.declared.links.LinkEvent.{LinkEvent};
+ghost use Rattle.io_traits.specs.declared.links.LinkEvent.{LinkEvent};
 ghost use Rattle.link_dialog.specs.Dialog.{Message};
 ghost use Rattle.link_dialog.specs.Replies.{Reply};
 ghost use Rattle.link_dialog.specs.Talk.{Start, Rests, link_of_dialog};
@@ -8,9 +8,9 @@ ghost use Rattle.poster.specs.Said.{article_end};
 ghost use Rattle.poster.specs.Posting.{IsPosting, IsSending, KeepsOpen};
 
 use crate::PartEnd;
+use io_traits::Links;
 use link_dialog::{Answer, Awaited, Dialog};
 use nntp_lines::{Command, Why, write_command};
-use ub_base::Links;
 
 // How the posting of an article went.
 #[derive(Clone, Copy)]
@@ -26,7 +26,7 @@ pub(crate) enum Posting {
 }
 
 // Says POST, and the article where it is permitted. Where POST is refused it says QUIT.
-pub(crate) fn post_article<L: Links>(dialog: Dialog, block: &[u8], links: &mut L) -> Posting
+pub(crate) fn post_article<L: Links>(dialog: Dialog, links: &mut L, block: &[u8]) -> Posting
     requires live { slice_get (L.live links.old) (link_of_dialog dialog) ≡ Some true }
     requires some { 0 < length block.now }
     ensures live { KeepsOpen (L.live links.old) (L.live links.new) result }
@@ -43,7 +43,7 @@ pub(crate) fn post_article<L: Links>(dialog: Dialog, block: &[u8], links: &mut L
     match dialog.hear(links, Awaited::Post) {
         Answer::Code(code) => {
             if code == 340 {
-                return send_article(dialog, block, links);
+                return send_article(dialog, links, block);
             }
             dialog.quit(links);
             Posting::Refused(code)
@@ -59,7 +59,7 @@ pub(crate) fn post_article<L: Links>(dialog: Dialog, block: &[u8], links: &mut L
 }
 
 // Says an article that is permitted, and hears its answer.
-fn send_article<L: Links>(dialog: Dialog, block: &[u8], links: &mut L) -> Posting
+fn send_article<L: Links>(dialog: Dialog, links: &mut L, block: &[u8]) -> Posting
     requires live { slice_get (L.live links.old) (link_of_dialog dialog) ≡ Some true }
     requires some { 0 < length block.now }
     ensures live { KeepsOpen (L.live links.old) (L.live links.new) result }

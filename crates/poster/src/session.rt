@@ -1,9 +1,9 @@
 // The session of a post.
 ghost use Rattle.std.specs.Prelude.{◌≡◌, ◌≤◌, ◌<◌, ◌-◌, [], length, slice_get, Some, true, List as Seq, Option, ℕ, IfOk};
 ghost use Rattle.input_files.specs.Reading.{reading};
-ghost use Rattle.link_dialog.specs.Talk.{Start, link_of_dialog};
+ghost use Rattle.link_dialog.specs.Talk.{OpeningFailed, Start, link_of_dialog};
 ghost use Rattle.poster.specs.Said.{IsMade, outcomes_of};
-ghost use Rattle.poster.specs.Session.{PostEnds, NoLinkHasCause, HasOutcomes};
+ghost use Rattle.poster.specs.Session.{PostEnds, OnNoLink, HasOutcomes, StopsSomewhere};
 ghost use Rattle.poster.specs.Posting.{UnderWay, PartEnds, RunEnds, RunReads, KeepsOpenUnless, made_on, error_of};
 ghost use Rattle.poster.specs.Plan.{IsPlanOf};
 ghost use Rattle.poster.specs.Settings.{AreSettings};
@@ -11,10 +11,11 @@ ghost use Rattle.poster.specs.Settings.{AreSettings};
 use crate::desk::{Desk, Unmade, make_part};
 use crate::posting::{Posting, post_article};
 use crate::{PartEnd, Plan, Sent, Settings};
+use io_traits::{Input, Links};
 use link_dialog::{Dialog, NotOpen};
+use lists::{List, Memory};
 use nntp_lines::Why;
 use std::alloc::Global;
-use ub_base::{Input, Links, List, Memory};
 
 /// Why a post has no outcome for each part, or was refused.
 #[derive(Drop)]
@@ -63,17 +64,18 @@ pub fn run_post<I: Input, L: Links>(
     ensures ends { PostEnds settings.now plan.now.size (length plan.now.parts) (I.content input.old)
         (reading I.faults I.shorts I.short_place I.current I.blame input.old input.new)
         (record { before = L.trace links.old; address = settings.now.server; login = settings.now.login }) (L.trace links.new) result }
-    ensures cause { NoLinkHasCause (L.faults links.old) (L.faults links.new) (L.blame links.old) (L.blame links.new) settings.now.server result }
+    ensures cause { OnNoLink result (OpeningFailed (L.faults links.old) (L.faults links.new) (L.blame links.old) (L.blame links.new) settings.now.server) }
 
-    // Each list that is answered may stand in an index.
+    // Each list that is answered may stand in an index. Behind the part at which the run stopped it has no octets.
     ensures outcomes { HasOutcomes plan.now result }
+    ensures stops { StopsSomewhere result }
 
     // The input has the same current file.
     ensures current { I.current input.new ≡ I.current input.old }
     ensures content { I.content input.new ≡ I.content input.old }
 {
     let mut desk = Desk::new(alloc);
-    match make_part(settings, plan, 1, &mut desk, input) {
+    match make_part(settings, plan, 1, input, &mut desk) {
         Ok(()) => {}
         Err(unmade) => return Err(post_error(unmade)),
     }
@@ -91,7 +93,7 @@ pub fn run_post<I: Input, L: Links>(
         Err(NotOpen::NoLink) => return Err(PostError::NoLink),
         Err(NotOpen::Over(why)) => return Err(PostError::Over(why)),
     };
-    match post_parts(settings, plan, dialog, &mut desk, &mut sent, input, links) {
+    match post_parts(settings, plan, input, dialog, links, &mut desk, &mut sent) {
         Ok(RunEnd::Sent) => Ok(sent),
         Ok(RunEnd::Refused(code)) => Err(PostError::Refused(code, sent)),
         Ok(RunEnd::Over(why)) => Err(PostError::Over(why)),
@@ -128,11 +130,11 @@ fn post_error(unmade: Unmade) -> PostError
 fn post_parts<I: Input, L: Links>(
     settings: &Settings,
     plan: &Plan,
+    input: &mut I,
     dialog: Dialog,
+    links: &mut L,
     desk: &mut Desk,
     sent: &mut List<Sent>,
-    input: &mut I,
-    links: &mut L,
 ) -> Result<RunEnd, Unmade>
     requires settings { AreSettings settings.now }
     requires plan { IsPlanOf settings.now plan.now.size plan.now }
@@ -150,7 +152,7 @@ fn post_parts<I: Input, L: Links>(
     let total = plan.parts.len() as u32;
     let mut part = 1;
     loop {
-        match post_part(part, dialog, desk, sent, links) {
+        match post_part(dialog, links, part, desk, sent) {
             None => {}
             Some(end) => return Ok(end),
         }
@@ -159,7 +161,7 @@ fn post_parts<I: Input, L: Links>(
             return Ok(RunEnd::Sent);
         }
         part += 1;
-        match make_part(settings, plan, part, desk, input) {
+        match make_part(settings, plan, part, input, desk) {
             Ok(()) => {}
             Err(unmade) => {
                 dialog.quit(links);
@@ -172,11 +174,11 @@ fn post_parts<I: Input, L: Links>(
 // Posts the part, counted from 1, whose article stands on the desk, and notes what became of it. It answers how the posting
 // ended, where it did.
 fn post_part<L: Links>(
-    part: u32,
     dialog: Dialog,
+    links: &mut L,
+    part: u32,
     desk: &Desk,
     sent: &mut List<Sent>,
-    links: &mut L,
 ) -> Option<RunEnd>
     requires live { slice_get (L.live links.old) (link_of_dialog dialog) ≡ Some true }
     requires some { 0 < length desk.now.block }
@@ -191,7 +193,7 @@ fn post_part<L: Links>(
 {
     let at = part as usize - 1;
     let bytes = desk.octets;
-    match post_article(dialog, desk.block.as_slice(), links) {
+    match post_article(dialog, links, desk.block.as_slice()) {
         Posting::Answered(end) => {
             sent.set(at, Sent { end, bytes });
             None

@@ -1,6 +1,6 @@
 // How a file is posted.
+use lists::Bytes;
 use nntp_lines::Login;
-use ub_base::Bytes;
 use yenc_lines::Name;
 
 /// How a file is posted. What a post demands of the fields stands beside each; it demands nothing of the server's address.

@@ -15,6 +15,7 @@ use Rattle.range_assembler.proofs.Scanning.{covers_means, means_covers}
 use Rattle.range_assembler.proofs.Ordering.{not_before, reaches, some_at, within}
 use Rattle.range_assembler.proofs.Changes.{left_over}
 use Rattle.range_assembler.proofs.Carving.{Less, set_came, trim_set, trim_remove, add_gap, same_gaps}
+use Rattle.limits.specs.declared.TheConstants.{MOST_FILE_BYTES}
 
 mix : (a b c : Bool) → (a || (b || c)) ≡ (b || (a || c))
 mix true true c = refl
@@ -130,7 +131,7 @@ offset_place bare files ranges file offset place are at found =
       ]
     ]
 
-pub has_range : (bare : ℕ → ℕ → Type 0) (files : ℕ) (ranges : List Range) (place : ℕ) (range : Range) → IsGaps bare files ranges → IsPlace range.file range.first ranges place → range.file < files → 1 ≤ range.first → range.first ≤ range.last → range.last ≤ 2 ^ 40 → ((offset : ℕ) → range.first ≤ offset → offset ≤ range.last → bare range.file offset) → HasRange range ranges place
+pub has_range : (bare : ℕ → ℕ → Type 0) (files : ℕ) (ranges : List Range) (place : ℕ) (range : Range) → IsGaps bare files ranges → IsPlace range.file range.first ranges place → range.file < files → 1 ≤ range.first → range.first ≤ range.last → range.last ≤ MOST_FILE_BYTES → ((offset : ℕ) → range.first ≤ offset → offset ≤ range.last → bare range.file offset) → HasRange range ranges place
 has_range bare files ranges place range are at its one some small clear =
     let found = are.whole range.file range.first its one (omega (arith, some, small)) (clear range.first (omega arith) some) in
     let same = offset_place bare files ranges range.file range.first place are at found in

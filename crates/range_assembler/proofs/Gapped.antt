@@ -23,6 +23,7 @@ use Rattle.range_assembler.proofs.Changes.{came, one_if}
 use Rattle.range_assembler.proofs.Carving.{same_gaps}
 use Rattle.range_assembler.proofs.Carved.{gaps-same, has_range, carve_gaps, bare_after, bare_still, trim_length, trim_place, trim_segments}
 use Rattle.range_assembler.proofs.Walk.{walk, IsFrom}
+use Rattle.limits.specs.declared.TheConstants.{MOST_FILES}
 
 count_one : (entry : Entry) (entries : List Entry) → count_accepted (entry ∷ entries) ≡ one_if (is_accepted entry.hold) + count_accepted entries
 count_one entry entries = elim (is_accepted entry.hold) as (λ b. cond b (suc (count_accepted entries)) (count_accepted entries) ≡ one_if b + count_accepted entries) [ true ↦ omega arith | false ↦ omega arith ]
@@ -299,7 +300,7 @@ bare_start entries file offset free = bare_by (is_covered file entries offset) (
     let c = covers_means file offset by.entry by.has in
     let no_way : false ≡ true = sym (ap is_accepted (free by.place by.entry by.is)) ∙ c.accepted in cc)
 
-pub gapped-start : (counts : List ℕ) (entries : List Entry) (after : List Range × ℕ) (files : ℕ) → entries ≡ entries_of 0 counts → after.0 ≡ first_gaps (length entries) 0 files → after.1 ≡ length entries + files → files ≤ 9999 → IsGapped entries after files
+pub gapped-start : (counts : List ℕ) (entries : List Entry) (after : List Range × ℕ) (files : ℕ) → entries ≡ entries_of 0 counts → after.0 ≡ first_gaps (length entries) 0 files → after.1 ≡ length entries + files → files ≤ MOST_FILES → IsGapped entries after files
 gapped-start counts entries after files is ranges sides few =
     let frees : (k : ℕ) (entry : Entry) → slice_get entries k ≡ Some entry → entry.hold ≡ Free = λ k entry there. free_in 0 counts k entry (ap (λ (t : List Entry). slice_get t k) (sym is) ∙ there) in
     let at : (k : ℕ) (range : Range) → slice_get after.0 k ≡ Some range → IsFirst (length entries) 0 files k range = λ k range there. first_at (length entries) 0 files k range (ap (λ (t : List Range). slice_get t k) (sym ranges) ∙ there) in

@@ -4,14 +4,16 @@ use Rattle.std.specs.Prelude.{slice_get, nat_le, ◌==◌}
 use Rattle.std.proofs.lemmas.Bool.Decides.{nat_tests}
 use Rattle.std.proofs.lemmas.Option.{slice_get_past}
 use Rattle.std.proofs.lemmas.Bool.{cases_lt}
+use Rattle.lists.specs.Edit.{edit_at}
 use Rattle.range_assembler.specs.declared.assembler.Entry.{Entry}
 use Rattle.range_assembler.specs.declared.assembler.Hold.{Hold}
 use Rattle.range_assembler.specs.declared.assembler.Hold.TheVariants.{Free, Held, Accepted}
-use Rattle.range_assembler.specs.Entries.{least_clash, shares, is_taken, kept_size, edit_at, free_entry, entries_of}
+use Rattle.range_assembler.specs.Entries.{least_clash, shares, is_taken, kept_size, free_entry, entries_of}
 use Rattle.range_assembler.specs.Claims.{is_held}
 use Rattle.range_assembler.specs.Sound.{IsSound, IsRange}
 use Rattle.range_assembler.proofs.Places.{get-set_other, get-set_same, same_or_not}
 use Rattle.range_assembler.proofs.Scanning.{no_clash, kept_is, kept_none}
+use Rattle.limits.specs.declared.TheConstants.{MOST_FILE_BYTES, MOST_SEGMENTS}
 
 -- an edit is a write of the changed element
 pub set-edit : {A : Type 0} (xs : List A) (i : ℕ) (f : A → A) (x : A) → slice_get xs i ≡ Some x → set xs i (f x) ≡ edit_at i f xs
@@ -115,7 +117,7 @@ sound-set entries i old new sound is fits = record {
 }
 
 -- a range that clashes with none is held
-pub fits-claim : (entries : List Entry) (i first last : ℕ) (old : Entry) → slice_get entries i ≡ Some old → least_clash 0 old.file first last entries ≡ None → 1 ≤ first → first ≤ last + 1 → last ≤ 2 ^ 40 → Fits entries i record { file = old.file; hold = Held; first = first; last = last }
+pub fits-claim : (entries : List Entry) (i first last : ℕ) (old : Entry) → slice_get entries i ≡ Some old → least_clash 0 old.file first last entries ≡ None → 1 ≤ first → first ≤ last + 1 → last ≤ MOST_FILE_BYTES → Fits entries i record { file = old.file; hold = Held; first = first; last = last }
 fits-claim entries i first last old is none one forward small = record {
   range = λ t. record { from_one = one; forward = forward; small = small };
   apart = λ k other differ there t. no_clash 0 old.file first last entries k other none there;
@@ -164,7 +166,7 @@ pub free_in : (file : ℕ) (counts : List ℕ) (k : ℕ) (entry : Entry) → sli
 free_in file [] k entry is = cc
 free_in file (count ∷ counts) k entry is = free_among file count (entries_of (file + 1) counts) k entry (λ n there. free_in (file + 1) counts n entry there) is
 
-pub sound-start : (counts : List ℕ) → length (entries_of 0 counts) ≤ 262144 → IsSound (entries_of 0 counts)
+pub sound-start : (counts : List ℕ) → length (entries_of 0 counts) ≤ MOST_SEGMENTS → IsSound (entries_of 0 counts)
 sound-start counts few = record {
   few = few;
   apart = λ j k entry other differ one two taken. let no_way : false ≡ true = sym (ap is_taken (free_in 0 counts j entry one)) ∙ taken in cc;

@@ -19,6 +19,7 @@ use Rattle.range_assembler.proofs.Scanning.{no_clash, kept_is, kept_none}
 use Rattle.range_assembler.proofs.SetLaws.{shared}
 use Rattle.range_assembler.proofs.Ordering.{not_before, before_means, reaches, below_place, from_place, leads, some_at, within, has_offset, shown_means}
 use Rattle.range_assembler.proofs.Changes.{absent, order-hidden, order-kept, order-insert, order-remove, count-set, count-upto, one_if}
+use Rattle.limits.specs.declared.TheConstants.{MOST_FILE_BYTES, MOST_SEGMENTS}
 
 same_length : {X : Type 0} (xs : List X) (i : ℕ) (x : X) → length (set xs i x) ≡ length xs
 same_length xs i x = length-set xs i x
@@ -151,7 +152,7 @@ many_claim ranges p range true low = length_insert ranges p range low
 many_claim ranges p range false low = omega arith
 
 -- a claim
-pub index-claim : (entries : List Entry) (order after : List Range × ℕ) (sizes : List (Option ℕ)) (i first last p : ℕ) (old : Entry) → IsIndexed entries order sizes → slice_get entries i ≡ Some old → is_free old.hold ≡ true → IsPlace old.file first order.0 p → least_clash 0 old.file first last entries ≡ None → 1 ≤ first → first ≤ last + 1 → last ≤ 2 ^ 40 → after.0 ≡ with_range p record { file = old.file; segment = i; first = first; last = last } order.0 → after.1 ≡ order.1 → IsIndexed (set entries i record { file = old.file; hold = Held; first = first; last = last }) after sizes
+pub index-claim : (entries : List Entry) (order after : List Range × ℕ) (sizes : List (Option ℕ)) (i first last p : ℕ) (old : Entry) → IsIndexed entries order sizes → slice_get entries i ≡ Some old → is_free old.hold ≡ true → IsPlace old.file first order.0 p → least_clash 0 old.file first last entries ≡ None → 1 ≤ first → first ≤ last + 1 → last ≤ MOST_FILE_BYTES → after.0 ≡ with_range p record { file = old.file; segment = i; first = first; last = last } order.0 → after.1 ≡ order.1 → IsIndexed (set entries i record { file = old.file; hold = Held; first = first; last = last }) after sizes
 index-claim entries order after sizes i first last p old index is free at clear one forward small ranges sides =
     let frees = free_not old.hold free in
     let none = hidden old frees.0 in
@@ -297,7 +298,7 @@ get_replicate (suc count) zero x low = refl
 get_replicate (suc count) (suc k) x low = get_replicate count k x (omega arith)
 
 -- nothing is held at first
-pub index-start : (counts : List ℕ) (entries : List Entry) (order : List Range × ℕ) (sizes : List (Option ℕ)) → entries ≡ entries_of 0 counts → length (entries_of 0 counts) ≤ 262144 → order ≡ ([], length entries) → sizes ≡ replicate (length counts) None → IsIndexed entries order sizes
+pub index-start : (counts : List ℕ) (entries : List Entry) (order : List Range × ℕ) (sizes : List (Option ℕ)) → entries ≡ entries_of 0 counts → length (entries_of 0 counts) ≤ MOST_SEGMENTS → order ≡ ([], length entries) → sizes ≡ replicate (length counts) None → IsIndexed entries order sizes
 index-start counts entries order sizes is low none unknown =
     let frees : (k : ℕ) (entry : Entry) → slice_get entries k ≡ Some entry → entry.hold ≡ Free = λ k entry there. free_in 0 counts k entry (ap (λ (t : List Entry). slice_get t k) (sym is) ∙ there) in
     let hides : (k : ℕ) (entry : Entry) → slice_get entries k ≡ Some entry → is_shown entry ≡ false = λ k entry there. hidden entry (ap is_taken (frees k entry there)) in

@@ -12,3 +12,4 @@ mod Walk
 mod Carving
 mod Carved
 mod Gapped
+pub mod Parts

@@ -5,6 +5,7 @@ use Rattle.range_assembler.specs.declared.sequence.Range.{Range}
 use Rattle.range_assembler.specs.Entries.{is_accepted}
 use Rattle.range_assembler.specs.Missing.{is_covered}
 use Rattle.range_assembler.specs.Order.{with_range}
+use Rattle.limits.specs.declared.TheConstants.{MOST_FILES}
 
 -- an offset stands between the two
 abbrev pub Leaves : Range → Range → Type 0
@@ -46,7 +47,7 @@ count_accepted (entry ∷ entries) = if is_accepted entry.hold then suc (count_a
 -- the gaps are those of the entries, and each is known by a file or by an accepted segment
 pub record IsGapped (entries : List Entry) (gaps : List Range × ℕ) (files : ℕ) : Type 0 where
   pub gaps_are : IsGaps (IsBare entries) files gaps.0
-  pub few : files ≤ 9999
+  pub few : files ≤ MOST_FILES
   pub many : length gaps.0 ≤ files + count_accepted entries
   pub sides : gaps.1 ≡ length entries + files
   pub ids : (k : ℕ) (range : Range) → slice_get gaps.0 k ≡ Some range → ((length entries ≤ range.segment) × (range.segment < length entries + files)) ⊎ IsAcceptedAt entries range.segment

@@ -8,3 +8,4 @@ pub mod Sequence
 pub mod Order
 pub mod Sides
 pub mod Bare
+pub mod Accepted

@@ -3,18 +3,21 @@ ghost use Rattle.std.specs.Prelude.{◌≡◌, ◌<◌, ◌≤◌, ◌+◌, ◌^
 ghost use Rattle.range_assembler.specs.Entries.{entries_of, least_clash, kept_size, with_claim, with_accept, with_release};
 ghost use Rattle.range_assembler.specs.Claims.{file_at, last_at, claim_answer, other_size, accept_answer, is_free_at, is_held_at};
 ghost use Rattle.range_assembler.specs.Missing.{missing_of, is_complete};
+ghost use Rattle.range_assembler.specs.Accepted.{IsKthPart};
 ghost use Rattle.range_assembler.specs.Sets.{ShareNothing, IsApart, NamesLeast, IsWhole};
 ghost use Rattle.range_assembler.specs.Bare.{first_gaps};
 ghost use Rattle.range_assembler.specs.Order.{size_read};
 ghost use Rattle.range_assembler.specs.Sound.{IsSound};
+ghost use Rattle.limits.specs.declared.TheConstants.{MOST_FILES, MOST_FILE_BYTES, MOST_SEGMENTS};
 
+use crate::accepted::kth_from;
 use crate::gap_list::{carve, fill, gap_at};
 use crate::order::{Order, clash_with, put, take_out};
 use crate::scans::{add_file, add_sizes};
 use crate::sequence::Range;
+use lists::Memory;
 use std::alloc::Global;
 use std::marker::Model;
-use ub_base::Memory;
 
 /// A held or accepted range of the same file that shares an offset with the one that was claimed: of all such ranges the one with
 /// the least first offset.
@@ -88,8 +91,8 @@ impl Model for Assembler {
 impl Assembler {
     /// No segment has a range. `parts` has the number of segments of each file: at most 9,999 files, and 262,144 segments in all.
     pub fn new(alloc: Global, parts: &[u32]) -> Result<Self, Memory>
-        requires files { length parts.now ≤ 9999 }
-        requires segments { sum parts.now ≤ 262144 }
+        requires files { length parts.now ≤ MOST_FILES }
+        requires segments { sum parts.now ≤ MOST_SEGMENTS }
         ensures { IfOk result (λ assembler. assembler ≡ entries_of 0 parts.now) }
     {
         let mut entries = Vec::new(alloc);
@@ -114,7 +117,7 @@ impl Assembler {
         requires free { is_free_at self.old segment ≡ true }
         requires first { 1 ≤ first }
         requires range { first ≤ last + 1 }
-        requires small { last ≤ 2 ^ 40 }
+        requires small { last ≤ MOST_FILE_BYTES }
         ensures answer { result ≡ claim_answer (least_clash 0 (file_at self.old segment) first last self.old) }
         ensures apart { OnOk result (IsApart (file_at self.old segment) first last self.old) }
         ensures clash { IfErr result (λ clash. NamesLeast (file_at self.old segment) first last self.old clash) }
@@ -224,6 +227,15 @@ impl Assembler {
         self.size(file).is_some() && self.missing(file, 0).is_none()
     }
 
+    /// The segment with the k-th, from 0 in ascending order, of the accepted ranges of a file that aren't empty. Nothing where there
+    /// are at most k of them.
+    pub fn accepted(&self, file: u32, k: usize) -> Option<u32>
+        ensures { IsKthPart file k self.now result }
+    {
+        let place = self.order.place(file, 1);
+        kth_from(&self.order, &self.entries, file, place, k)
+    }
+
     /// The k-th, from 0 in ascending order, of the greatest ranges of offsets from 1 to the size that are in no accepted range.
     /// Nothing where no part is accepted, or there are at most k of them.
     pub fn missing(&self, file: u32, k: usize) -> Option<(u64, u64)>
@@ -248,8 +260,8 @@ fn order_of(alloc: Global, entries: &[Entry]) -> Result<Order, Memory>
 
 // The gaps of so many files, with room for what each entry may cut off.
 fn gaps_of(alloc: Global, entries: &[Entry], files: usize) -> Result<Order, Memory>
-    requires few { length entries.now ≤ 262144 }
-    requires files { files ≤ 9999 }
+    requires few { length entries.now ≤ MOST_SEGMENTS }
+    requires files { files ≤ MOST_FILES }
     ensures ranges { IfOk result (λ gaps. gaps.0 ≡ first_gaps (length entries.now) 0 files) }
     ensures sides { IfOk result (λ gaps. gaps.1 ≡ length entries.now + files) }
 {

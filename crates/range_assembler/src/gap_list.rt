@@ -3,6 +3,7 @@ ghost use Rattle.std.specs.Prelude.{◌≡◌, ◌<◌, ◌≤◌, ◌+◌, ◌^
 ghost use Rattle.range_assembler.specs.Bare.{trimmed, next_place, carved, gap_upto, first_gaps};
 ghost use Rattle.range_assembler.specs.Order.{IsAbsent};
 ghost use Rattle.range_assembler.specs.declared.sequence.Range.{Range};
+ghost use Rattle.limits.specs.declared.TheConstants.{MOST_FILES, MOST_FILE_BYTES, MOST_SEGMENTS};
 
 use crate::order::{Order, put};
 use crate::sequence::Range;
@@ -13,8 +14,8 @@ const LAST: u64 = u64::MAX;
 /// Puts the gap of all offsets for each of so many files. The gaps are known by the numbers from `segments` on.
 pub fn fill(gaps: &mut Order, segments: u32, files: u32)
     requires new { gaps.old.0 ≡ first_gaps segments 0 0 }
-    requires few { segments ≤ 262144 }
-    requires files { files ≤ 9999 }
+    requires few { segments ≤ MOST_SEGMENTS }
+    requires files { files ≤ MOST_FILES }
     requires sides { gaps.old.1 ≡ segments + files }
     ensures ranges { gaps.new.0 ≡ first_gaps segments 0 files }
     ensures sides { gaps.new.1 ≡ gaps.old.1 }
@@ -27,8 +28,8 @@ pub fn fill(gaps: &mut Order, segments: u32, files: u32)
 // The gap of all offsets of one more file.
 fn add_file_gap(gaps: &mut Order, segments: u32, file: u32, files: u32)
     requires ranges { gaps.old.0 ≡ first_gaps segments 0 file }
-    requires few { segments ≤ 262144 }
-    requires files { files ≤ 9999 }
+    requires few { segments ≤ MOST_SEGMENTS }
+    requires files { files ≤ MOST_FILES }
     requires file { file < files }
     requires sides { gaps.old.1 ≡ segments + files }
     ensures ranges { gaps.new.0 ≡ first_gaps segments 0 (file + 1) }
@@ -71,7 +72,7 @@ fn trim(gaps: &mut Order, place: u32, gap: Range, first: u64) -> u32
 pub fn carve(gaps: &mut Order, place: u32, gap: Option<Range>, range: Range)
     requires there { gap ≡ slice_get gaps.old.0 place }
     requires first { 1 ≤ range.first }
-    requires last { range.last ≤ 2 ^ 40 }
+    requires last { range.last ≤ MOST_FILE_BYTES }
     requires few { length gaps.old.0 + 1 < 2 ^ 32 }
     requires range { range.segment < gaps.old.1 }
     requires absent { IsAbsent range.segment gaps.old.0 }

@@ -1,6 +1,7 @@
 //! The ranges of a file's parts: which are held, which are accepted, and which offsets are missing.
 #![tactic(auto)]
 
+mod accepted;
 mod assembler;
 mod gap_list;
 mod order;

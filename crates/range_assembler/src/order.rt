@@ -7,9 +7,9 @@ ghost use Rattle.range_assembler.specs.declared.sequence.Range.{Range};
 
 use crate::Clash;
 use crate::sequence::{Range, Sequence};
+use lists::Memory;
 use std::alloc::Global;
 use std::marker::Model;
-use ub_base::Memory;
 
 /// Ranges in order. Contracts see them, and the number of segments.
 #[derive(Drop)]

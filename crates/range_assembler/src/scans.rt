@@ -3,7 +3,7 @@ ghost use Rattle.std.specs.Prelude.{◌≡◌, ◌++◌, None, replicate, OnOk};
 ghost use Rattle.range_assembler.specs.Entries.{free_entry};
 
 use crate::{Entry, Hold};
-use ub_base::Memory;
+use lists::Memory;
 
 /// The segments of one more file, none with a range.
 pub fn add_file(entries: &mut Vec<Entry>, file: u32, count: u32) -> Result<(), Memory>

@@ -1,44 +1,9 @@
-//! What every room of usebin shares: lists that grow, decimal numbers, and the traits of the outside with the objects
-//! that meet them, in memory and for real.
+//! The rooms at the bottom under one name: lists, numbers, the traits of the outside, and the objects that meet them, in
+//! memory and of the system.
 #![tactic(auto)]
 
-mod blame;
-mod bytes;
-mod count;
-mod decimal;
-mod error;
-mod file_input;
-mod input;
-mod lines;
-mod links;
-mod list;
-mod log;
-mod mem_input;
-mod mem_sink;
-mod number;
-mod script;
-mod script_links;
-mod sink;
-mod standard;
-mod store;
-mod tcp_links;
-
-pub use blame::Blame;
-pub use bytes::Bytes;
-pub use decimal::write_dec;
-pub use error::{Failed, Memory};
-pub use file_input::FileInput;
-pub use input::Input;
-pub use lines::Lines;
-pub use links::{Got, LinkEvent, Links};
-pub use list::List;
-pub use log::LinkLog;
-pub use mem_input::MemInput;
-pub use mem_sink::MemSink;
-pub use number::{read_dec, read_hex32};
-pub use script::Turn;
-pub use script_links::ScriptLinks;
-pub use sink::Sink;
-pub use standard::{ErrSink, OutSink, StreamSink};
-pub use store::Store;
-pub use tcp_links::TcpLinks;
+pub use io_memory::{LinkLog, MemInput, MemSink, ScriptLinks, Turn};
+pub use io_system::{ErrSink, FileInput, OutSink, StreamSink, TcpLinks};
+pub use io_traits::{Blame, Failed, Got, Input, LinkEvent, Links, Sink, Store};
+pub use lists::{Bytes, Lines, List, Memory};
+pub use numbers::{read_dec, read_hex32, write_dec};

@@ -4,11 +4,11 @@ ghost use Rattle.std.specs.Prelude.{◌≤◌};
 use crate::explain::{explain_fault, explain_memory, explain_words, hint, wants_hints};
 use crate::help::Page;
 use command_words::refused_word;
+use lists::Memory;
 use std::env::{Env, FillError};
 use std::io::ErrorKind;
 use std::time::{SystemTime, UNIX_EPOCH};
 use std::{env, io};
-use ub_base::Memory;
 
 // The most bytes that the system hands over as one word.
 const LONGEST_WORD: usize = 131_072;
@@ -107,14 +107,17 @@ pub(crate) fn print_help(rt: &HostRuntime, page: &Page) -> u8 {
     ));
     match printed {
         Ok(()) => 0,
-        Err(error) => {
-            let _ = rt.stderr().println("usebin: output fault");
-            if wants_hints(rt) {
-                explain_fault(rt, "standard output", Some(&error));
-            }
-            4
-        }
+        Err(error) => say_output_fault(rt, &error),
     }
+}
+
+/// Says that standard output failed, and why, and answers the status.
+pub(crate) fn say_output_fault(rt: &HostRuntime, reason: &io::Error) -> u8 {
+    let _ = rt.stderr().println("usebin: output fault");
+    if wants_hints(rt) {
+        explain_fault(rt, "standard output", Some(reason));
+    }
+    4
 }
 
 /// The word behind a key, where the key stands among the words.

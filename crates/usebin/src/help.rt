@@ -49,11 +49,11 @@ exit status:
   2  a word is refused, and its number is told
   3  a file could not be opened or read
   4  the output could not be written
-  5  no connection to the server could be opened
+  5  no link to the server could be opened
   6  the input was read and is refused
   7  there was not enough memory
   8  the server refused to be sent an article, or to give an overview, and its code is told
-  9  the connection was over before an article was sent or the overview was heard, and why is told
+  9  the link was over before an article was sent or the overview was heard, and why is told
 
 The line of a status is followed by lines that explain it, each indented by two blanks. With USEBIN_HINTS=no in the environment
 they are left out.
@@ -122,7 +122,7 @@ usage: usebin post --input FILE --server HOST:PORT --from FROM --group GROUPS --
                    [--name NAME] [--comment TEXT] [--line N] [--part-size N] [--patience N] [--login FILE]
 ",
     about: "
-Posts FILE as yEnc articles, one for each part, over one connection to a news server, and then writes the NZB of all parts to
+Posts FILE as yEnc articles, one for each part, over one link to a news server, and then writes the NZB of all parts to
 standard output. An article is sent once, whatever becomes of it. Each part that wasn't posted has a line on standard error:
 `part I refused C` with the server's code, `part I unsure` where the article was sent, or some of it, and no answer came, and
 `part I notsent`.
@@ -156,7 +156,7 @@ const INDEX: CommandHelp = CommandHelp {
 usage: usebin index --server HOST:PORT --group GROUP --first A --last B [--patience N] [--login FILE]
 ",
     about: "
-Asks a news server for the overview of the articles A to B of GROUP, over one connection, and writes an NZB of the files that
+Asks a news server for the overview of the articles A to B of GROUP, over one link, and writes an NZB of the files that
 they are parts of to standard output. The articles of one author whose subjects differ in their last count alone, as in (1/5)
 and (2/5), are the parts of one file. Of two articles with one number the first is kept.
 How many lines of the overview were skipped, since they can't be read or have no count in their subject, goes to standard error

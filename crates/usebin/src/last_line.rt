@@ -1,13 +1,15 @@
 // Standard error, and the line that was said last.
 
-use ub_base::{ErrSink, Failed, Sink};
+use io_system::ErrSink;
+use io_traits::{Failed, Sink};
+use std::os::fd::AsRawFd;
 
 // The longest line that is kept. No line of a status is longer.
 const LONGEST: usize = 256;
 
 /// Standard error. The line that was said last is kept, to be explained.
 #[derive(Drop)]
-pub(crate) struct LastLine<R: Print + Drop> {
+pub(crate) struct LastLine<R: Print + AsRawFd + Drop> {
     sink: ErrSink<R>,
     kept: KeptLine,
     has_failed: bool,
@@ -22,7 +24,7 @@ struct KeptLine {
     is_ended: bool,
 }
 
-impl<R: Print + Drop> LastLine<R> {
+impl<R: Print + AsRawFd + Drop> LastLine<R> {
     /// Writes to standard error. Nothing was said yet.
     pub(crate) fn new(sink: ErrSink<R>) -> Self {
         LastLine {
@@ -67,7 +69,7 @@ impl KeptLine {
     }
 }
 
-impl<R: Print + Drop> Sink for LastLine<R> {
+impl<R: Print + AsRawFd + Drop> Sink for LastLine<R> {
     ghost faults = { λ s. ⟦<ErrSink<R> as Sink>⟧.faults s.sink };
 
     ghost told = { λ s. ⟦<ErrSink<R> as Sink>⟧.told s.sink };

@@ -3,28 +3,41 @@
 
 mod edge;
 mod explain;
+mod held;
 mod help;
 mod last_line;
 mod meaning;
 mod named_input;
 
-use edge::{command_line, moment_of, print_help, value_of};
+use edge::{command_line, moment_of, print_help, say_output_fault, value_of};
 use explain::{explain_fault, explain_line, explain_memory, explain_words, wants_hints};
+use held::hold_closed_streams;
 use help::help_for;
+use io_system::{ErrSink, OutSink, TcpLinks};
 use last_line::LastLine;
 use named_input::NamedInput;
 use std::process::ExitCode;
-use ub_base::{ErrSink, OutSink, TcpLinks};
 use usebin_cli::{NoStore, usebin};
 
 fn main(rt: HostRuntime) -> ExitCode {
-    let words = match command_line(&rt) {
+    let held = match hold_closed_streams(&rt) {
+        Ok(held) => held,
+        Err(error) => return ExitCode::from(say_output_fault(&rt, &error)),
+    };
+    let status = answer(&rt);
+    drop(held);
+    ExitCode::from(status)
+}
+
+// Answers what the words ask for, and says the status.
+fn answer(rt: &HostRuntime) -> u8 {
+    let words = match command_line(rt) {
         Ok(words) => words,
-        Err(status) => return ExitCode::from(status),
+        Err(status) => return status,
     };
     match help_for(&words) {
-        Some(text) => ExitCode::from(print_help(&rt, &text)),
-        None => ExitCode::from(run(&rt, &words)),
+        Some(text) => print_help(rt, &text),
+        None => run(rt, &words),
     }
 }
 

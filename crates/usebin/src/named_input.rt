@@ -1,9 +1,10 @@
 // The files of the system, and the path of the one that was opened last.
 
+use io_system::FileInput;
+use io_traits::{Failed, Input};
 use std::alloc::Global;
 use std::io;
 use std::rt::Files;
-use ub_base::{Failed, FileInput, Input};
 
 /// The files of the system. The path of the one that was opened last is kept, where there is memory for it, to be named when a call
 /// on it fails.

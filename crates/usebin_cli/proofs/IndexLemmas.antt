@@ -1,7 +1,7 @@
 -- What the end of an index says of the top call's clauses.
 use Rattle.std.proofs.Common.{◌≡◌, ℕ, List, [], ◌∷◌, ◌++◌, Option, Some, None, refl, sym, ap, ◌∙◌, inl, inr, ◌⊎◌, arith}
 use Rattle.std.specs.Prelude.{codes}
-use Rattle.ub_base.specs.Causes.{Rose}
+use Rattle.io_traits.specs.Causes.{Rose}
 use Rattle.nzb_index.specs.Canonical.{nzb_text}
 use Rattle.command_words.specs.CommandLine.{Words}
 use Rattle.command_words.specs.CommandLine.Words.{Asks}

@@ -1,12 +1,12 @@
 -- A login file that was read keeps to the rules.
 use Rattle.std.proofs.Common.{◌≡◌, ◌≤◌, ◌<◌, ℕ, List, Option, Some, None, refl, ap, subst, inl, inr, ◌⊎◌, arith, length}
 use Rattle.std.specs.Prelude.{IsSomeAnd}
-use Rattle.ub_base.specs.Input.{file_of}
+use Rattle.io_traits.specs.Input.{file_of}
 use Rattle.nntp_lines.specs.declared.login.Login.{Login}
-use Rattle.yenc_body.specs.Text.{text_lines}
-use Rattle.news_server.specs.Logins.{AreLogins, HaveFirstBroken, HaveLogins, IsFirstBroken}
-use Rattle.news_server.specs.declared.logins.ServerLogin.{ServerLogin}
-use Rattle.news_server.proofs.LoginLaws.{logins_or_broken}
+use Rattle.lists.specs.Text.{text_lines}
+use Rattle.server_logins.specs.Logins.{AreLogins, HaveFirstBroken, HaveLogins, IsFirstBroken}
+use Rattle.server_logins.specs.declared.logins.ServerLogin.{ServerLogin}
+use Rattle.server_logins.proofs.LoginLaws.{logins_or_broken}
 use Rattle.usebin_cli.specs.Login.{IsFileOfLength, IsLoginAt, most_login}
 
 pub same_file : (path : List ℕ) (files : List (List ℕ × List ℕ)) (one two : List ℕ) → file_of path files ≡ Some one → file_of path files ≡ Some two → one ≡ two

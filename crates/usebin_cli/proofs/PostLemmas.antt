@@ -1,8 +1,8 @@
 -- What the end of a post says of the top call's clauses.
 use Rattle.std.proofs.Common.{◌≡◌, ◌≤◌, ◌<◌, ℕ, List, [], ◌∷◌, ◌++◌, Option, Some, None, refl, sym, ap, subst, ◌∙◌, inl, inr, ◌⊎◌, arith, length}
 use Rattle.std.specs.Prelude.{IsSomeAnd, codes}
-use Rattle.ub_base.specs.Causes.{Rose}
-use Rattle.ub_base.specs.Input.{file_of}
+use Rattle.io_traits.specs.Causes.{Rose}
+use Rattle.io_traits.specs.Input.{file_of}
 use Rattle.command_words.specs.CommandLine.{Words}
 use Rattle.command_words.specs.CommandLine.Words.{Asks}
 use Rattle.command_words.specs.CommandLine.Command.{Post}

@@ -3,6 +3,7 @@ use Rattle.std.proofs.Common.{◌≡◌, None, Some, refl}
 use Rattle.yenc_body.specs.Parts.{part_length, part_place, parts_of}
 use Rattle.usebin_cli.specs.Body.{limit_of}
 use Rattle.usebin_cli.specs.declared.encode.Limit.TheVariants.{File, Part, Segments}
+use Rattle.limits.specs.declared.TheConstants.{MOST_SEGMENTS}
 
 -- ---- parts
 
@@ -29,7 +30,7 @@ there = refl
 pub no_such_part : limit_of 9 4 27 ≡ Some (Part 3)
 no_such_part = refl
 
-pub as_many_parts_as_there_may_be : limit_of 1 262144 262144 ≡ None
+pub as_many_parts_as_there_may_be : limit_of 1 MOST_SEGMENTS MOST_SEGMENTS ≡ None
 as_many_parts_as_there_may_be = refl
 
 -- too many parts are named before the part that isn't there, and too many bytes before both

@@ -1,6 +1,6 @@
 -- What a sink has got by two texts, one behind the other, of which one may be nothing.
 use Rattle.std.proofs.Common.{◌≡◌, ℕ, List, ◌++◌, Bool, true, false, Option, refl, ap, ◌∙◌, inl, inr}
-use Rattle.ub_base.specs.Sink.{told_and}
+use Rattle.io_traits.specs.Sink.{told_and}
 use Rattle.usebin_cli.specs.Writing.{Written, Got, IsUntouched, Told, WroteFront}
 use Rattle.usebin_cli.proofs.WritingLemmas.{front_of_longer}
 

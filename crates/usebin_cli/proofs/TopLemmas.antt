@@ -1,7 +1,7 @@
 -- What the top call says of its commands' ends: the text on standard error, and why an input is refused.
 use Rattle.std.proofs.Common.{◌≡◌, ℕ, List, [], ◌++◌, Bool, true, false, Option, Some, None, refl, sym, ap, ◌∙◌, inl, inr, ◌⊎◌, arith, append-nil}
 use Rattle.std.specs.Prelude.{codes}
-use Rattle.ub_base.specs.Sink.{told_and}
+use Rattle.io_traits.specs.Sink.{told_and}
 use Rattle.yenc_body.specs.declared.part.Part.{Part}
 use Rattle.yenc_body.specs.declared.fault.Fault.{Fault}
 use Rattle.nzb_index.specs.Nzb.{IsNzb}

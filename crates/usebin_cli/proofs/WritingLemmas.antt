@@ -2,8 +2,8 @@
 use Rattle.std.proofs.Common.{◌≡◌, ℕ, ◌+◌, ◌-◌, List, ◌++◌, length, take, drop, Option, Some, None, sym, ◌∙◌, ap, arith, append_assoc, length-drop, subst, min, refl}
 use Rattle.std.proofs.lemmas.List.{take_all, take-append-le, take_min}
 use Rattle.std.proofs.Math.Seq.{take-add, take-append-add}
-use Rattle.ub_base.specs.Causes.{Rose}
-use Rattle.ub_base.specs.Sink.{told_and}
+use Rattle.io_traits.specs.Causes.{Rose}
+use Rattle.io_traits.specs.Sink.{told_and}
 
 -- what is told goes on by one text and then another
 pub told_and-append : (told : Option (List ℕ)) (xs ys : List ℕ) → told_and (told_and told xs) ys ≡ told_and told (xs ++ ys)

@@ -2,7 +2,7 @@
 use Rattle.std.specs.Prelude.{◌≡◌, ℕ, List, Bool, true, false, Option, Result, Ok, Err, ⊤}
 use Rattle.yenc_body.specs.Body.{IsBody}
 use Rattle.yenc_body.specs.FirstFault.{IsFirstFault}
-use Rattle.yenc_body.specs.Text.{text_lines}
+use Rattle.lists.specs.Text.{text_lines}
 use Rattle.yenc_body.specs.declared.part.Part.{Part}
 use Rattle.yenc_body.specs.declared.fault.Fault.{Fault}
 use Rattle.command_words.specs.CommandLine.{BodyAsked}

@@ -3,8 +3,8 @@ use Rattle.std.specs.Prelude.{◌≡◌, ℕ, List, length, Option, Some, None, 
 use Rattle.yenc_body.specs.Canonical.{IsCanonicalBody, IsPart}
 use Rattle.yenc_body.specs.Parts.{part_length, part_place}
 use Rattle.yenc_body.specs.declared.spec.BodySpec.{BodySpec}
-use Rattle.ub_base.specs.declared.blame.Blame.{Blame}
-use Rattle.ub_base.specs.declared.blame.Blame.TheVariants.{Read, Open}
+use Rattle.io_traits.specs.declared.blame.Blame.{Blame}
+use Rattle.io_traits.specs.declared.blame.Blame.TheVariants.{Read, Open}
 use Rattle.usebin_cli.specs.Body.{limit_of, part_spec, text_of}
 use Rattle.command_words.specs.CommandLine.{PartAsked}
 use Rattle.input_files.specs.Reading.{Reading, IsFaultless, IsShortAt, HasFailed, IsIn, IsPieceAt}

@@ -1,9 +1,9 @@
 -- What is seen of links before a call and after it.
 use Rattle.std.specs.Prelude.{◌≡◌, ℕ, List, Option, Err}
-use Rattle.ub_base.specs.Causes.{Rose, BlamesNamed}
-use Rattle.ub_base.specs.declared.blame.Blame.{Blame}
-use Rattle.ub_base.specs.declared.blame.Blame.TheVariants as blames
-use Rattle.ub_base.specs.declared.links.LinkEvent.{LinkEvent}
+use Rattle.io_traits.specs.Causes.{Rose, BlamesNamed}
+use Rattle.io_traits.specs.declared.blame.Blame.{Blame}
+use Rattle.io_traits.specs.declared.blame.Blame.TheVariants as blames
+use Rattle.io_traits.specs.declared.links.LinkEvent.{LinkEvent}
 
 -- the trace, the count of faults and the last failed call of links, before and after
 pub record Linked : Type 0 where

@@ -1,12 +1,12 @@
 -- The login at a news server, from the login file that the words name, if they name one.
 use Rattle.std.specs.Prelude.{◌≡◌, ◌≤◌, ◌<◌, ℕ, List, [], ◌∷◌, length, Option, Some, None, Result, Ok, Err, IfSome, IsSomeAnd, ⊤}
-use Rattle.ub_base.specs.Input.{file_of}
-use Rattle.ub_base.specs.declared.blame.Blame.{Blame}
-use Rattle.ub_base.specs.declared.blame.Blame.TheVariants as blames
+use Rattle.io_traits.specs.Input.{file_of}
+use Rattle.io_traits.specs.declared.blame.Blame.{Blame}
+use Rattle.io_traits.specs.declared.blame.Blame.TheVariants as blames
 use Rattle.nntp_lines.specs.declared.login.Login.{Login}
-use Rattle.yenc_body.specs.Text.{text_lines}
-use Rattle.news_server.specs.Logins.{AreLogins, FindsLogin, IsFirstBroken}
-use Rattle.news_server.specs.declared.logins.ServerLogin.{ServerLogin}
+use Rattle.lists.specs.Text.{text_lines}
+use Rattle.server_logins.specs.Logins.{AreLogins, FindsLogin, IsFirstBroken}
+use Rattle.server_logins.specs.declared.logins.ServerLogin.{ServerLogin}
 use Rattle.input_files.specs.Reading.{Reading, IsFaultless, IsShortAt, HasFailed, Fits, IsBelow, IsFileAt}
 use Rattle.usebin_cli.specs.declared.login.LoginEnd.{LoginEnd}
 use Rattle.usebin_cli.specs.declared.login.LoginEnd.TheVariants.{Memory, InputFault, Short, TooLong, Broken}

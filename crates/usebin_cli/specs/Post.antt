@@ -1,10 +1,10 @@
 -- How `post` ends.
 use Rattle.std.specs.Prelude.{◌≡◌, ◌≢◌, ◌≤◌, ◌<◌, ◌⊎◌, ℕ, Bool, true, false, List, [], ◌∷◌, ◌++◌, length, Option, Some, None, Result, Ok, Err, All, IfSome, IsSomeAnd, codes, ⊤}
 use Rattle.std.specs.Fmt.{decimal}
-use Rattle.ub_base.specs.Input.{file_of}
-use Rattle.ub_base.specs.declared.blame.Blame.{Blame}
-use Rattle.ub_base.specs.declared.blame.Blame.TheVariants as blames
-use Rattle.ub_base.specs.declared.links.LinkEvent.{LinkEvent}
+use Rattle.io_traits.specs.Input.{file_of}
+use Rattle.io_traits.specs.declared.blame.Blame.{Blame}
+use Rattle.io_traits.specs.declared.blame.Blame.TheVariants as blames
+use Rattle.io_traits.specs.declared.links.LinkEvent.{LinkEvent}
 use Rattle.nntp_lines.specs.declared.login.Login.{Login}
 use Rattle.nntp_lines.specs.declared.why.Why.{Why}
 use Rattle.yenc_body.specs.Parts.{most_bytes, most_parts, parts_of}

@@ -1,7 +1,7 @@
 -- What a run of the top call says of the words, the input and the outputs.
 use Rattle.std.specs.Prelude.{◌≡◌, ◌⊎◌, ℕ, List, [], ◌∷◌, ◌++◌, Option, Some, None, codes, ⊤}
 use Rattle.std.specs.Fmt.{decimal}
-use Rattle.ub_base.specs.Causes.{Rose}
+use Rattle.io_traits.specs.Causes.{Rose}
 use Rattle.command_words.specs.CommandLine.{Words}
 use Rattle.command_words.specs.CommandLine.Words.{Asks, Refused}
 use Rattle.command_words.specs.CommandLine.Command.{Check, Decode, Encode, Index as AsksIndex, Post}

@@ -1,7 +1,7 @@
 -- What is seen of a sink before a call and after it.
 use Rattle.std.specs.Prelude.{◌≡◌, ◌⊎◌, ℕ, Bool, true, false, List, take, Option}
-use Rattle.ub_base.specs.Causes.{Rose}
-use Rattle.ub_base.specs.Sink.{told_and}
+use Rattle.io_traits.specs.Causes.{Rose}
+use Rattle.io_traits.specs.Sink.{told_and}
 
 -- the count of faults and the told bytes of a sink, before and after
 pub record Written : Type 0 where

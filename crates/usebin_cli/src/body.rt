@@ -3,8 +3,8 @@ ghost use Rattle.std.specs.Prelude.{◌≡◌, length, IfOk};
 ghost use Rattle.yenc_body.specs.Canonical.{IsCanonicalBody, IsPart};
 ghost use Rattle.usebin_cli.specs.Body.{text_of as text_of_lines};
 
+use lists::{Bytes, Lines, Memory};
 use std::alloc::Global;
-use ub_base::{Bytes, Lines, Memory};
 use yenc_body::{BodySpec, write_body};
 
 /// The lines of the body of a part's bytes.

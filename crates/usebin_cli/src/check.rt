@@ -6,13 +6,13 @@ ghost use Rattle.input_files.specs.Reading.{reading};
 ghost use Rattle.usebin_cli.specs.Writing.{written};
 
 use crate::printed::write_counts;
-use crate::texts::MOST_TEXT;
 use crate::writing::write_all;
 use command_words::CheckWords;
 use input_files::{ReadError, read_file};
+use io_traits::{Failed, Input, Sink};
+use limits::MOST_TEXT_BYTES;
 use nzb_index::{FileEntry, Index, NzbError, NzbLimit, NzbReason, read_nzb};
 use std::alloc::Global;
-use ub_base::{Failed, Input, Sink};
 
 /// How `check` ended.
 #[derive(Clone, Copy, Debug, PartialEq, Eq)]
@@ -53,7 +53,7 @@ pub(crate) fn check<I: Input, O: Sink>(
     ensures { CheckEnds asked.entry.path.now (I.files input.old) (reading I.faults I.shorts I.short_place I.current I.blame input.old input.new)
         (written O.faults O.told out.old out.new) result }
 {
-    let text = match read_file(alloc, asked.path, MOST_TEXT, input) {
+    let text = match read_file(alloc, asked.path, MOST_TEXT_BYTES as u64, input) {
         Ok(text) => text,
         Err(ReadError::Memory) => return CheckEnd::Memory,
         Err(ReadError::Fault) => return CheckEnd::InputFault,

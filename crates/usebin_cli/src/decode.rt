@@ -7,13 +7,14 @@ ghost use Rattle.usebin_cli.specs.Writing.{written};
 
 use crate::printed::write_range;
 use crate::reply::{ReplyError, ReplyFault, reply_lines};
-use crate::texts::MOST_TEXT;
 use crate::writing::write_all;
 use command_words::{DecodeWords, Form};
 use input_files::{ReadError, read_file};
+use io_traits::{Failed, Input, Sink};
+use limits::MOST_TEXT_BYTES;
+use lists::{Bytes, Lines, Memory, split_text};
 use std::alloc::Global;
-use ub_base::{Bytes, Failed, Input, Lines, Memory, Sink};
-use yenc_body::{BodyError, Fault, Part, read_body, split_text};
+use yenc_body::{BodyError, Fault, Part, read_body};
 
 /// How `decode` ended.
 #[derive(Clone, Copy, Debug, PartialEq, Eq)]
@@ -58,7 +59,7 @@ pub(crate) fn decode<I: Input, O: Sink, E: Sink>(
     ensures { DecodeEnds (body_asked asked.entry) (I.files input.old) (reading I.faults I.shorts I.short_place I.current I.blame input.old input.new)
         (written O.faults O.told out.old out.new) (written E.faults E.told err.old err.new) result }
 {
-    let text = match read_file(alloc, asked.path, MOST_TEXT, input) {
+    let text = match read_file(alloc, asked.path, MOST_TEXT_BYTES as u64, input) {
         Ok(text) => text,
         Err(ReadError::Memory) => return DecodeEnd::Memory,
         Err(ReadError::Fault) => return DecodeEnd::InputFault,

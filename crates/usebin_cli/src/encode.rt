@@ -1,6 +1,4 @@
 // The command `encode`.
-ghost use Rattle.std.specs.Prelude.{◌≡◌, ◌≤◌};
-ghost use Rattle.yenc_body.specs.Parts.{parts_of as parts_of_file};
 ghost use Rattle.command_words.specs.Asked.{asked_of, IsEncodeAllowed};
 ghost use Rattle.usebin_cli.specs.Encode.{EncodeEnds, IsPartOrLimit, ReadsPart};
 ghost use Rattle.input_files.specs.Reading.{reading};
@@ -10,15 +8,11 @@ use crate::body::{body_of, text_of};
 use crate::writing::write_all;
 use command_words::EncodeWords;
 use input_files::{ReadError, read_part};
+use io_traits::{Failed, Input, Sink};
+use limits::{MOST_FILE_BYTES, MOST_SEGMENTS};
+use lists::Bytes;
 use std::alloc::Global;
-use ub_base::{Bytes, Failed, Input, Sink};
-use yenc_body::BodySpec;
-
-// How many bytes a file may have.
-pub(crate) const MOST_BYTES: u64 = 1_099_511_627_776;
-
-// How many parts a file may have.
-pub(crate) const MOST_PARTS: u64 = 262_144;
+use yenc_body::{BodySpec, parts_of};
 
 /// What is wrong with a file, or with the part that is asked of it.
 #[derive(Clone, Copy, Debug, PartialEq, Eq)]
@@ -115,11 +109,11 @@ fn spec_of(asked: EncodeWords<'_>, size: u64) -> Result<BodySpec, Limit>
     requires { IsEncodeAllowed asked }
     ensures { IsPartOrLimit (asked_of asked.entry) size result }
 {
-    if size > MOST_BYTES {
+    if size > MOST_FILE_BYTES {
         return Err(Limit::File);
     }
-    let parts = parts_of(size, asked.part_size);
-    if parts > MOST_PARTS {
+    let parts = parts_of(size, asked.part_size as u64);
+    if parts > MOST_SEGMENTS as u64 {
         return Err(Limit::Segments);
     }
     let total = parts as u32;
@@ -135,12 +129,4 @@ fn spec_of(asked: EncodeWords<'_>, size: u64) -> Result<BodySpec, Limit>
         size,
         line: asked.line,
     })
-}
-
-// How many parts of a length a file has: one where it has no bytes.
-pub(crate) fn parts_of(size: u64, part_size: u32) -> u64
-    requires { 1 ≤ part_size }
-    ensures { result ≡ parts_of_file size part_size }
-{
-    size.div_ceil(u64::from(part_size)).max(1)
 }

@@ -15,11 +15,12 @@ use crate::statuses::{
 };
 use crate::writing::{write_all, write_numbered};
 use command_words::IndexWords;
+use io_traits::{Input, Links, Sink};
+use lists::{Bytes, Memory};
 use nntp_lines::Why;
 use nzb_index::{Index, NzbLimit, write_nzb};
 use overview_index::{GroupError, IndexError, Indexed, run_index};
 use std::alloc::Global;
-use ub_base::{Bytes, Input, Links, Memory, Sink};
 
 /// How `index` ended.
 #[derive(Clone, Copy, Debug, PartialEq, Eq)]

@@ -12,7 +12,6 @@ mod post;
 mod printed;
 mod reply;
 mod statuses;
-mod texts;
 mod top;
 mod writing;
 

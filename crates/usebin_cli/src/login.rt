@@ -5,13 +5,12 @@ ghost use Rattle.input_files.specs.Reading.{reading};
 ghost use Rattle.usebin_cli.specs.Login.{FindsLoginAt, ReadsLoginFile};
 
 use input_files::{ReadError, read_part};
-use news_server::{LoginError, read_logins};
+use io_traits::Input;
+use limits::MOST_LOGIN_BYTES;
+use lists::Bytes;
 use nntp_lines::Login;
+use server_logins::{LoginError, read_logins};
 use std::alloc::Global;
-use ub_base::{Bytes, Input};
-
-// How many bytes a login file may have.
-const MOST_LOGIN: u64 = 65_536;
 
 /// Why no login file was read whole, or what is wrong with it.
 #[derive(Clone, Copy, Debug, PartialEq, Eq)]
@@ -68,7 +67,7 @@ fn login_text<I: Input>(alloc: Global, path: &str, input: &mut I) -> Result<Byte
     let Ok(len) = input.open(path) else {
         return Err(LoginEnd::InputFault);
     };
-    if len > MOST_LOGIN {
+    if len > MOST_LOGIN_BYTES as u64 {
         return Err(LoginEnd::TooLong);
     }
     match read_part(alloc, 0, len as usize, input) {

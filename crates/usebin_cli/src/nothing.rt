@@ -2,11 +2,11 @@
 // `Some` are there so that each condition of a call is one that some value meets.
 ghost use Rattle.std.specs.Prelude.{◌≡◌, ◌==◌, ℕ, [], None, Some, IsErr, true, false, slice_get, slice_set, if◌then◌else◌};
 ghost use Rattle.std.specs.Option.{option_to_list};
-ghost use Rattle.ub_base.specs.Causes.{HasCause};
-ghost use Rattle.ub_base.specs.Links.{GotHasCause};
-ghost use Rattle.ub_base.specs.Store.{is_created, Creates};
+ghost use Rattle.io_traits.specs.Causes.{HasCause};
+ghost use Rattle.io_traits.specs.Links.{GotHasCause};
+ghost use Rattle.io_traits.specs.Store.{is_created, Creates};
 
-use ub_base::{Failed, Got, Links, Store};
+use io_traits::{Failed, Got, Links, Store};
 
 /// A store in which no file can be created: each call fails and is counted.
 #[derive(Drop)]
@@ -49,6 +49,17 @@ impl Store for NoStore {
         ensures created { Creates (⟦<NoStore as Store>⟧.created self.old) (⟦<NoStore as Store>⟧.created self.new) file result }
     {
         self.created = other_than(self.created, file);
+        self.faults = self.faults.saturating_add(1);
+        self.failed = true;
+        Err(Failed)
+    }
+
+    fn keep(&mut self, _file: u32, _name: &str) -> Result<(), Failed>
+        ensures fails { IsErr result }
+        ensures cause { HasCause (⟦<NoStore as Store>⟧.faults self.old) (⟦<NoStore as Store>⟧.faults self.new) result }
+        ensures last { ⟦<NoStore as Store>⟧.last_failed self.new ≡ true }
+        ensures created { ⟦<NoStore as Store>⟧.created self.new ≡ ⟦<NoStore as Store>⟧.created self.old }
+    {
         self.faults = self.faults.saturating_add(1);
         self.failed = true;
         Err(Failed)
@@ -105,6 +116,8 @@ impl Links for NoLinks {
     ghost trace = { λ s. None };
 
     ghost blame = { λ s. None };
+
+    ghost keeps_turns = { true };
 
     fn open(&mut self, _address: &[u8]) -> Result<u32, Failed>
         ensures fails { IsErr result }

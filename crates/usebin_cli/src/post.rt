@@ -10,7 +10,7 @@ ghost use Rattle.usebin_cli.specs.Linked.{linked};
 ghost use Rattle.usebin_cli.specs.PostText.{part_line, part_lines};
 ghost use Rattle.usebin_cli.specs.Writing.{Told, written};
 
-use crate::encode::{Limit, MOST_BYTES, MOST_PARTS, parts_of};
+use crate::encode::Limit;
 use crate::login::{LoginEnd, server_login};
 use crate::printed::write_end;
 use crate::statuses::{
@@ -19,11 +19,14 @@ use crate::statuses::{
 };
 use crate::writing::write_all;
 use command_words::PostWords;
+use io_traits::{Failed, Input, Links, Sink};
+use limits::{MOST_FILE_BYTES, MOST_SEGMENTS};
+use lists::{Bytes, List, Memory, bytes_of};
 use nntp_lines::{Login, Why};
 use nzb_index::write_nzb;
 use poster::{PartEnd, Plan, PostError, Sent, Settings, plan, post_index, run_post};
 use std::alloc::Global;
-use ub_base::{Bytes, Failed, Input, Links, List, Memory, Sink};
+use yenc_body::parts_of;
 
 /// How `post` ended.
 #[derive(Clone, Copy, Debug, PartialEq, Eq)]
@@ -141,10 +144,10 @@ fn plan_file<I: Input>(
     let Ok(size) = input.open(asked.path) else {
         return Err(PostEnd::InputFault);
     };
-    if size > MOST_BYTES {
+    if size > MOST_FILE_BYTES {
         return Err(PostEnd::Limit(Limit::File));
     }
-    if parts_of(size, asked.part_size) > MOST_PARTS {
+    if parts_of(size, asked.part_size as u64) > MOST_SEGMENTS as u64 {
         return Err(PostEnd::Limit(Limit::Segments));
     }
     let Ok(settings) = settings_of(alloc, asked, login) else {
@@ -196,14 +199,6 @@ fn settings_of(
         part_size: u64::from(asked.part_size),
         patience: asked.patience,
     })
-}
-
-fn bytes_of(alloc: Global, text: &[u8]) -> Result<Bytes, Memory>
-    ensures { IfOk result (λ bytes. bytes ≡ text.now) }
-{
-    let mut bytes = Bytes::new(alloc);
-    bytes.extend(text)?;
-    Ok(bytes)
 }
 
 // Tells the parts that aren't posted, and writes the index of all.

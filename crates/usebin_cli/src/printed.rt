@@ -10,9 +10,9 @@ ghost use Rattle.usebin_cli.specs.Printed.{fault_line, key_fault_text, range_lin
 use crate::check::Counts;
 use crc_field::write_hex;
 use nntp_lines::Why;
+use numbers::{put, put_number};
 use nzb_index::NzbReason;
 use poster::PartEnd;
-use ub_base::write_dec;
 use yenc_body::{Fault, Part, Reason};
 use yenc_lines::{Key, KeyFault};
 
@@ -99,27 +99,6 @@ pub(crate) fn write_end(number: u64, end: PartEnd, out: &mut LineBuffer) -> usiz
     let at = put(out, at, b" ");
     let at = put_end(out, at, end);
     put(out, at, b"\n")
-}
-
-// Puts a text behind the first `at` bytes, and answers where it ends.
-fn put(out: &mut LineBuffer, at: usize, text: &[u8]) -> usize
-    requires { at + length text.now ≤ 160 }
-    ensures text { take result out.new ≡ take at out.old ++ text.now }
-    ensures end { result ≡ at + length text.now }
-{
-    let end = at + text.len();
-    out[at..end].copy_from_slice(text);
-    end
-}
-
-fn put_number(out: &mut LineBuffer, at: usize, value: u64) -> usize
-    requires { at + 20 ≤ 160 }
-    ensures text { take result out.new ≡ take at out.old ++ decimal value }
-    ensures end { result ≤ at + 20 }
-{
-    let mut digits = [0; 20];
-    let len = write_dec(value, &mut digits);
-    put(out, at, &digits[..len])
 }
 
 // Puts a reason's name and its values.

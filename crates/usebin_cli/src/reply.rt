@@ -3,9 +3,9 @@ ghost use Rattle.std.specs.Prelude.{◌≤◌, length, IfSome, MatchResult};
 ghost use Rattle.usebin_cli.specs.Reply.{IsBodyReply, IsReplyError, ReadsStatus};
 
 use dot_blocks::{BlockError, line_len, split_block};
+use lists::Lines;
 use nntp_lines::read_status;
 use std::alloc::Global;
-use ub_base::Lines;
 
 // The code of a reply that goes on with the body of an article (RFC 3977, section 6.2.3).
 const BODY_FOLLOWS: u16 = 222;

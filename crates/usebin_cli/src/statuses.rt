@@ -11,9 +11,9 @@ use crate::encode::Limit;
 use crate::printed::{write_fault, write_over, write_place};
 use crate::reply::ReplyFault;
 use crate::writing::{say, say_numbered};
+use io_traits::Sink;
 use nntp_lines::Why;
 use nzb_index::{NzbLimit, NzbReason};
-use ub_base::Sink;
 use yenc_body::Fault;
 
 /// The words are refused.

@@ -1,6 +1,6 @@
 // The top call: all that the program does.
 ghost use Rattle.std.specs.Prelude.{◌≡◌, ◌≢◌, ◌≤◌, ◌<◌, ◌↔◌, ◌⊎◌, ℕ, List, map, string_bytes};
-ghost use Rattle.ub_base.specs.Causes.{Rose};
+ghost use Rattle.io_traits.specs.Causes.{Rose};
 ghost use Rattle.command_words.specs.CommandLine.{words_of, IsRefused};
 ghost use Rattle.input_files.specs.Reading.{reading};
 ghost use Rattle.usebin_cli.specs.Linked.{linked};
@@ -17,8 +17,8 @@ use crate::statuses::{
     short, text_too_long, words_refused,
 };
 use command_words::{Command, read_words};
+use io_traits::{Input, Links, Sink, Store};
 use std::alloc::Global;
-use ub_base::{Input, Links, Sink, Store};
 
 /// Does what the words ask for, and answers the status.
 ///

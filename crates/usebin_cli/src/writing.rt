@@ -3,7 +3,8 @@ ghost use Rattle.std.specs.Prelude.{◌++◌, ◌∷◌, [], MatchResult};
 ghost use Rattle.std.specs.Fmt.{decimal};
 ghost use Rattle.usebin_cli.specs.Writing.{written, Got, WroteWhole, WroteFront};
 
-use ub_base::{Failed, Sink, write_dec};
+use io_traits::{Failed, Sink};
+use numbers::write_dec;
 
 /// Writes all bytes, in as few writes as the sink takes.
 pub(crate) fn write_all<O: Sink>(out: &mut O, bytes: &[u8]) -> Result<(), Failed>

@@ -1,10 +1,10 @@
 // The command `encode`, on the top call over objects in memory.
-use crate::fixtures::{ShrunkInput, SparseInput, input_of, run};
-use std::test::Fail;
+use crate::fixtures::{ended, input_of, run, run_failing};
+use row_fixtures::{Ran, ShrunkInput, SparseInput};
+use std::process::Abort;
 
 #[test]
-fn encodes_files_of_one_part(rt: HostRuntime) -> Result<(), Fail> {
-    let alloc = rt.alloc();
+fn encodes_files_of_one_part(rt: HostRuntime) {
     let rows: [(&str, &[u8], &[u8]); 5] = [
         (
             "e",
@@ -33,59 +33,44 @@ fn encodes_files_of_one_part(rt: HostRuntime) -> Result<(), Fail> {
         ),
     ];
     for (name, content, text) in rows {
-        let mut input = input_of(alloc, name, content)?;
-        let ran = run(alloc, &["encode", "--input", name], &mut input, &[])?;
-        assert_eq!(rt; ran.status, 0, "{name}");
-        assert_eq!(rt; ran.out.bytes(), text, "{name}");
-        assert_eq!(rt; ran.err.bytes(), b"".as_slice(), "{name}");
+        let input = input_of(&rt, name, content);
+        let ran = run(&rt, &["encode", "--input", name], input);
+        ended(&rt, ran, 0, text, "");
     }
-    Ok(())
 }
 
 #[test]
-fn names_the_file_by_the_last_part_of_its_path(rt: HostRuntime) -> Result<(), Fail> {
-    let alloc = rt.alloc();
-    let mut input = input_of(alloc, "a/b c/my file", b"")?;
-    let ran = run(
-        alloc,
-        &["encode", "--input", "a/b c/my file"],
-        &mut input,
-        &[],
-    )?;
-    assert_eq!(rt; ran.status, 0);
-    assert_eq!(rt;
-        ran.out.bytes(),
-        b"=ybegin line=128 size=0 name=my file\r\n=yend size=0 crc32=00000000\r\n".as_slice()
+fn names_the_file_by_the_last_part_of_its_path(rt: HostRuntime) {
+    let input = input_of(&rt, "a/b c/my file", b"");
+    let ran = run(&rt, &["encode", "--input", "a/b c/my file"], input);
+    ended(
+        &rt,
+        ran,
+        0,
+        b"=ybegin line=128 size=0 name=my file\r\n=yend size=0 crc32=00000000\r\n",
+        "",
     );
-    Ok(())
 }
 
 #[test]
-fn escapes_a_tab_in_the_last_column(rt: HostRuntime) -> Result<(), Fail> {
-    let alloc = rt.alloc();
+fn escapes_a_tab_in_the_last_column(rt: HostRuntime) {
     let mut content = [0; 64];
     content[63] = 0xdf;
-    let mut input = input_of(alloc, "n", &content)?;
-    let ran = run(
-        alloc,
-        &["encode", "--input", "n", "--line", "64"],
-        &mut input,
-        &[],
-    )?;
-    assert_eq!(rt; ran.status, 0);
-    assert_eq!(rt;
-        ran.out.bytes(),
+    let input = input_of(&rt, "n", &content);
+    let ran = run(&rt, &["encode", "--input", "n", "--line", "64"], input);
+    ended(
+        &rt,
+        ran,
+        0,
         b"=ybegin line=64 size=64 name=n\r\n\
 ***************************************************************=I\r\n\
-=yend size=64 crc32=63e1ac73\r\n"
-            .as_slice()
+=yend size=64 crc32=63e1ac73\r\n",
+        "",
     );
-    Ok(())
 }
 
 #[test]
-fn encodes_the_asked_part(rt: HostRuntime) -> Result<(), Fail> {
-    let alloc = rt.alloc();
+fn encodes_the_asked_part(rt: HostRuntime) {
     let thrice = b"123456789123456789123456789".as_slice();
     let once = b"123456789".as_slice();
     let rows: [(&str, &[u8], &[&str], &[u8]); 6] = [
@@ -138,21 +123,22 @@ c\r\n=yend size=1 part=2 pcrc32=8d076785\r\n",
         ),
     ];
     for (name, content, words, text) in rows {
-        let mut input = input_of(alloc, name, content)?;
-        let ran = run(alloc, words, &mut input, &[])?;
-        assert_eq!(rt; ran.status, 0, "{name}");
-        assert_eq!(rt; ran.out.bytes(), text, "{name}");
-        assert_eq!(rt; ran.err.bytes(), b"".as_slice(), "{name}");
+        let input = input_of(&rt, name, content);
+        let ran = run(&rt, words, input);
+        ended(&rt, ran, 0, text, "");
     }
-    Ok(())
+}
+
+// Asserts that a run was done, and that its text begins so.
+fn begins<R: Abort>(rt: &R, ran: Ran, head: &[u8]) {
+    assert!(rt; ran.status == 0 && ran.out.bytes().starts_with(head));
 }
 
 #[test]
-fn reads_the_asked_part_alone(rt: HostRuntime) -> Result<(), Fail> {
-    let alloc = rt.alloc();
-    let mut input = SparseInput::new(500_000_000_000, 1_998_000_000, 2_000_000_000);
+fn reads_the_asked_part_alone(rt: HostRuntime) {
+    let input = SparseInput::new(500_000_000_000, 1_998_000_000, 2_000_000_000);
     let ran = run(
-        alloc,
+        &rt,
         &[
             "encode",
             "--input",
@@ -162,100 +148,75 @@ fn reads_the_asked_part_alone(rt: HostRuntime) -> Result<(), Fail> {
             "--part",
             "1000",
         ],
-        &mut input,
-        &[],
-    )?;
-    assert_eq!(rt; ran.status, 0);
+        input,
+    );
     let head = b"=ybegin part=1000 total=250000 line=128 size=500000000000 name=big\r\n\
 =ypart begin=1998000001 end=2000000000\r\n";
-    assert!(rt; ran.out.bytes().starts_with(head));
-    Ok(())
+    begins(&rt, ran, head);
 }
 
 #[test]
-fn names_the_refused_word(rt: HostRuntime) -> Result<(), Fail> {
-    let alloc = rt.alloc();
-    let rows: [(&[&str], &[u8]); 5] = [
-        (&[], b"usebin: words 1\n"),
-        (&["decode"], b"usebin: words 2\n"),
-        (&["encode", "--input", "d/"], b"usebin: words 3\n"),
-        (&["encode", "--input", "d", "--line"], b"usebin: words 5\n"),
+fn names_the_refused_word(rt: HostRuntime) {
+    let rows: [(&[&str], &str); 5] = [
+        (&[], "usebin: words 1\n"),
+        (&["decode"], "usebin: words 2\n"),
+        (&["encode", "--input", "d/"], "usebin: words 3\n"),
+        (&["encode", "--input", "d", "--line"], "usebin: words 5\n"),
         (
             &["encode", "--input", "d", "--line", "64", "--line", "65"],
-            b"usebin: words 6\n",
+            "usebin: words 6\n",
         ),
     ];
     for (words, line) in rows {
-        let mut input = input_of(alloc, "d", b"123456789")?;
-        let ran = run(alloc, words, &mut input, &[])?;
-        assert_eq!(rt; ran.status, 2);
-        assert_eq!(rt; ran.out.bytes(), b"".as_slice());
-        assert_eq!(rt; ran.err.bytes(), line);
+        let input = input_of(&rt, "d", b"123456789");
+        let ran = run(&rt, words, input);
+        ended(&rt, ran, 2, b"", line);
     }
-    Ok(())
 }
 
 #[test]
-fn tells_a_fault_of_the_input(rt: HostRuntime) -> Result<(), Fail> {
-    let alloc = rt.alloc();
-    let mut input = input_of(alloc, "d", b"123456789")?;
-    let ran = run(alloc, &["encode", "--input", "none"], &mut input, &[])?;
-    assert_eq!(rt; ran.status, 3);
-    assert_eq!(rt; ran.out.bytes(), b"".as_slice());
-    assert_eq!(rt; ran.err.bytes(), b"usebin: input fault\n".as_slice());
-    Ok(())
+fn tells_a_fault_of_the_input(rt: HostRuntime) {
+    let input = input_of(&rt, "d", b"123456789");
+    let ran = run(&rt, &["encode", "--input", "none"], input);
+    ended(&rt, ran, 3, b"", "usebin: input fault\n");
 }
 
 #[test]
-fn tells_a_fault_of_the_output(rt: HostRuntime) -> Result<(), Fail> {
-    let alloc = rt.alloc();
-    let mut input = input_of(alloc, "d", b"123456789")?;
-    let ran = run(alloc, &["encode", "--input", "d"], &mut input, &[1])?;
-    assert_eq!(rt; ran.status, 4);
-    assert_eq!(rt; ran.out.bytes(), b"".as_slice());
-    assert_eq!(rt; ran.err.bytes(), b"usebin: output fault\n".as_slice());
-    Ok(())
+fn tells_a_fault_of_the_output(rt: HostRuntime) {
+    let input = input_of(&rt, "d", b"123456789");
+    let ran = run_failing(&rt, &["encode", "--input", "d"], input, &[1], &[]);
+    ended(&rt, ran, 4, b"", "usebin: output fault\n");
 }
 
 #[test]
-fn names_the_place_of_a_short_read(rt: HostRuntime) -> Result<(), Fail> {
-    let alloc = rt.alloc();
-    let ran = run(
-        alloc,
-        &["encode", "--input", "d"],
-        &mut ShrunkInput::new(9, 4),
-        &[],
-    )?;
-    assert_eq!(rt; ran.status, 6);
-    assert_eq!(rt; ran.out.bytes(), b"".as_slice());
-    assert_eq!(rt; ran.err.bytes(), b"usebin: short 4\n".as_slice());
-    Ok(())
+fn names_the_place_of_a_short_read(rt: HostRuntime) {
+    let ran = run(&rt, &["encode", "--input", "d"], ShrunkInput::new(9, 4));
+    ended(&rt, ran, 6, b"", "usebin: short 4\n");
 }
 
 #[test]
-fn names_the_limit_that_is_passed(rt: HostRuntime) -> Result<(), Fail> {
-    let alloc = rt.alloc();
-    let rows: [(u64, &str, &str, &[u8]); 7] = [
-        (27, "9", "4", b"usebin: limit part 3\n"),
-        (0, "1", "2", b"usebin: limit part 1\n"),
-        (262_144, "1", "262145", b"usebin: limit part 262144\n"),
-        (262_145, "1", "1", b"usebin: limit segments 262144\n"),
-        (262_145, "1", "262146", b"usebin: limit segments 262144\n"),
+fn names_the_limit_that_is_passed(rt: HostRuntime) {
+    let rows: [(u64, &str, &str, &str); 7] = [
+        (27, "9", "4", "usebin: limit part 3\n"),
+        (0, "1", "2", "usebin: limit part 1\n"),
+        (262_144, "1", "262145", "usebin: limit part 262144\n"),
+        (262_145, "1", "1", "usebin: limit segments 262144\n"),
+        (262_145, "1", "262146", "usebin: limit segments 262144\n"),
         (
             1_099_511_627_776,
             "16777216",
             "65537",
-            b"usebin: limit part 65536\n",
+            "usebin: limit part 65536\n",
         ),
         (
             1_099_511_627_777,
             "1",
             "1",
-            b"usebin: limit file 1099511627776\n",
+            "usebin: limit file 1099511627776\n",
         ),
     ];
     for (size, part_size, part, line) in rows {
-        let mut input = ShrunkInput::new(size, 0);
+        let input = ShrunkInput::new(size, 0);
         let words = [
             "encode",
             "--input",
@@ -265,24 +226,17 @@ fn names_the_limit_that_is_passed(rt: HostRuntime) -> Result<(), Fail> {
             "--part",
             part,
         ];
-        let ran = run(alloc, &words, &mut input, &[])?;
-        assert_eq!(rt; ran.status, 6);
-        assert_eq!(rt; ran.out.bytes(), b"".as_slice());
-        assert_eq!(rt; ran.err.bytes(), line);
+        let ran = run(&rt, &words, input);
+        ended(&rt, ran, 6, b"", line);
     }
-    Ok(())
 }
 
 #[test]
-fn names_the_place_of_a_short_read_in_a_part(rt: HostRuntime) -> Result<(), Fail> {
-    let alloc = rt.alloc();
+fn names_the_place_of_a_short_read_in_a_part(rt: HostRuntime) {
     let ran = run(
-        alloc,
+        &rt,
         &["encode", "--input", "d", "--part-size", "4", "--part", "2"],
-        &mut ShrunkInput::new(9, 6),
-        &[],
-    )?;
-    assert_eq!(rt; ran.status, 6);
-    assert_eq!(rt; ran.err.bytes(), b"usebin: short 6\n".as_slice());
-    Ok(())
+        ShrunkInput::new(9, 6),
+    );
+    ended(&rt, ran, 6, b"", "usebin: short 6\n");
 }

@@ -1,6 +1,9 @@
 -- One more spelling on a line, and one more line.
-use Rattle.std.proofs.Common.{◌≡◌, ◌≤◌, ◌<◌, ℕ, zero, suc, ◌+◌, ◌==◌, ◌||◌, Bool, false, List, [], ◌∷◌, ◌++◌, length, take, drop, get_or, refl, sym, ◌∙◌, ap, subst, arith, append_assoc, length-take}
+use Rattle.std.proofs.Common.{◌≡◌, ◌≤◌, ◌<◌, ℕ, zero, suc, ◌+◌, ◌%◌, ◌==◌, ◌||◌, Bool, false, List, [], ◌∷◌, ◌++◌, length, take, drop, get_or, refl, sym, ◌∙◌, ap, subst, arith, append_assoc, length-take}
 use Rattle.std.proofs.lemmas.List.{append-nil, take_more, take-append-drop, nil_from_length}
+use Rattle.std.proofs.lemmas.Bool.{ne_eqb}
+use Rattle.landing_kernel.specs.Characters.{is_critical}
+use Rattle.landing_kernel.specs.Raising.{Raises}
 use Rattle.yenc_bytes.specs.WriterLines.{writer_spelling, is_empty, line_text, without_last, IsWriterLine, IsCanonicalData}
 use Rattle.yenc_bytes.proofs.LineText.{line_text-more, without_last-append, is_empty-drop, is_empty-before}
 
@@ -37,6 +40,59 @@ Filled-more line_length rest used len text s so_far len_is left room s_is =
       inside = omega arith;
       not_before = omega (arith, shorter);
     }
+
+-- lists that are alike at their front
+same_front : (n : ℕ) (xs ys : List ℕ) → length xs ≡ length ys → ((k : ℕ) → k < n → get_or xs k 0 ≡ get_or ys k 0) → take n xs ≡ take n ys
+same_front zero xs ys long each = refl
+same_front (suc n) [] [] long each = refl
+same_front (suc n) [] (y ∷ ys) long each = absurd (omega (arith, long))
+same_front (suc n) (x ∷ xs) [] long each = absurd (omega (arith, long))
+same_front (suc n) (x ∷ xs) (y ∷ ys) long each = (λ t. each 0 (omega arith) t ∷ same_front n xs ys (omega (arith, long)) (λ k lt. each (suc k) (omega arith)) t)
+
+-- the spelling of a byte in a line's middle that needs no escape
+plain_spelling : (line_length len used long b x : ℕ) → 1 ≤ len → len + 1 < line_length → used + 1 < long → x ≡ (b + 42) % 256 → is_critical x ≡ false
+    → x ∷ [] ≡ writer_spelling (len == 0 || len + 1 == line_length || used + 1 == long) b
+plain_spelling line_length len used long b x some room left is plain =
+    let e0 : (len == 0) ≡ false = ne_eqb len 0 (omega arith) in
+    let e1 : (len + 1 == line_length) ≡ false = ne_eqb (len + 1) line_length (omega arith) in
+    let e2 : (used + 1 == long) ≡ false = ne_eqb (used + 1) long (omega arith) in
+    let p : is_critical ((b + 42) % 256) ≡ false = subst (λ n. is_critical n ≡ false) is plain in
+    rw (e0, e1, e2, p) (ap (λ n. n ∷ []) is)
+
+some_columns : (len n : ℕ) → (len ≡ 0 → suc n ≡ 0) → 1 ≤ len
+some_columns zero n first = absurd (let e = first refl in omega arith)
+some_columns (suc len) n first = omega arith
+
+-- bytes that were raised behind a line's first characters
+pub Filled-raised : (line_length : ℕ) (rest : List ℕ) (used len : ℕ) (old new : List ℕ) (n : ℕ) → line_length ≤ length old → Filled line_length rest used (take len old) → length (take len old) ≡ len
+    → used + n < length rest → len + n < line_length → (len ≡ 0 → n ≡ 0) → Raises rest old new used len n → Filled line_length rest (used + n) (take (len + n) new)
+Filled-raised line_length rest used len old new zero wide so_far len_is left room first raised =
+    let front : take len new ≡ take len old = same_front len new old raised.long raised.below in
+    let e : len + 0 ≡ len = omega arith in
+    let f : used + 0 ≡ used = omega arith in
+    subst (λ k. Filled line_length rest k (take (len + 0) new)) (sym f) (subst (λ k. Filled line_length rest used (take k new)) (sym e) (subst (Filled line_length rest used) (sym front) so_far))
+Filled-raised line_length rest used len old new (suc n) wide so_far len_is left room first raised =
+    let less : Raises rest old new used len n = record {
+      moved = λ k lt. raised.moved k (omega arith);
+      plain = λ k lt. raised.plain k (omega arith);
+      below = raised.below;
+      long = raised.long;
+    } in
+    let some : 1 ≤ len = some_columns len n first in
+    let run = Filled-raised line_length rest used len old new n wide so_far len_is (omega arith) (omega arith) (λ e. absurd (omega arith)) less in
+    let at = len + n in
+    let x = get_or new at 0 in
+    let b = get_or rest (used + n) 0 in
+    let l1 = length-take len old in
+    let same_long = raised.long in
+    let inside : at < length new = omega (arith, same_long) in
+    let run_long : length (take at new) ≡ at = omega (arith, length-take at new) in
+    let is : x ≡ (b + 42) % 256 = raised.moved n (omega arith) in
+    let more = Filled-more line_length rest (used + n) at (take at new) (x ∷ []) run run_long (omega arith) (omega arith) (plain_spelling line_length at (used + n) (length rest) b x (omega arith) (omega arith) (omega arith) is (raised.plain n (omega arith))) in
+    let e : len + suc n ≡ at + 1 = omega arith in
+    let f : used + suc n ≡ used + n + 1 = omega arith in
+    let text : take (len + suc n) new ≡ take at new ++ x ∷ [] = ap (λ k. take k new) e ∙ take_more new at 0 inside in
+    subst (λ k. Filled line_length rest k (take (len + suc n) new)) (sym f) (subst (Filled line_length rest (used + n + 1)) (sym text) more)
 
 -- bytes are left only before the end
 more_left : (used : ℕ) (rest : List ℕ) → used ≤ length rest → is_empty (drop used rest) ≡ false → used < length rest

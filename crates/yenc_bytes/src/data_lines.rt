@@ -1,12 +1,15 @@
 // A part's bytes, cut into lines of spellings.
 ghost use Rattle.std.specs.Prelude.{◌≡◌, ◌≤◌, ◌<◌, ◌+◌, ◌==◌, ◌||◌, ℕ, List, ◌++◌, length, take, drop, slice_index, OnOk, OnErr};
+ghost use Rattle.landing_kernel.specs.Raising.{Raises};
 ghost use Rattle.yenc_bytes.specs.WriterLines.{writer_spelling, is_empty, IsWriterLine, AppendsData, OneCanonicalData};
 
 use crate::spelling::{Spelling, spell};
-use ub_base::{Lines, Memory};
+use landing_kernel::raise;
+use lists::{Lines, Memory};
 
-// The longest line: the greatest line length, and one more where its last column has an escape.
-const LONGEST: usize = 998;
+// The longest line: the greatest line length, and one more where its last column has an escape. Behind it is room for a block of
+// the kernel.
+const LONGEST: usize = 1030;
 
 /// Appends the data lines of a part's bytes, of a line length from 64 to 997 (yEnc draft 1.3, "Encoding Technique").
 /// A part without bytes has none. Where memory runs out, the lines are as they were.
@@ -58,12 +61,39 @@ fn fill_line(rest: &[u8], line: u16, buffer: &mut [u8; LONGEST]) -> (usize, usiz
     let mut used = 0;
     let mut len = 0;
     while used < rest.len() && len < width {
+        let plain = fill_plain(rest, used, buffer, len, width);
+        used += plain;
+        len += plain;
         let spelling = spell_at(rest, used, len, width);
         put(buffer, len, spelling);
         len += usize::from(spelling.len);
         used += 1;
     }
     (used, len)
+}
+
+// Puts the next bytes of a line that need no escape behind its first characters, and answers how many: not the line's first,
+// nor its last.
+fn fill_plain(
+    rest: &[u8],
+    used: usize,
+    buffer: &mut [u8; LONGEST],
+    len: usize,
+    width: usize,
+) -> usize
+    requires inside { used < length rest.now }
+    requires room { len < width }
+    requires most { width ≤ 997 }
+    ensures inside { used + result < length rest.now }
+    ensures room { len + result < width }
+    ensures first { len ≡ 0 → result ≡ 0 }
+    ensures raised { Raises rest.now buffer.old buffer.new used len result }
+{
+    if len == 0 {
+        return 0;
+    }
+    let most = (width - 1 - len).min(rest.len() - 1 - used);
+    raise(rest, used, most, buffer, len)
 }
 
 // The spelling of a byte that goes behind so many characters of its line.

@@ -2,12 +2,13 @@
 use Rattle.std.proofs.Common.{◌≡◌, ℕ, Bool, true, false, not, List, [], ◌∷◌, drop, Option, Some, None, Ok, Err, refl, sym, ◌∙◌, ap, inl, inr, subst, find, is_some, nat_eq, option_and_then, unwrap_or, option_map, cond, if◌then◌else◌}
 use Rattle.std.proofs.lemmas.Bool.{cases_Bool}
 use Rattle.std.specs.List.{list_any, slice_split, starts_with}
+use Rattle.numbers.specs.Numbers.{or_zero}
 use Rattle.yenc_lines.specs.declared.key.Key.{Key}
 use Rattle.yenc_lines.specs.declared.key.Key.TheVariants as key
 use Rattle.yenc_lines.specs.declared.key.KeyFault.{KeyFault}
 use Rattle.yenc_lines.specs.declared.key.KeyFault.TheVariants.{NotIt, NoItem}
 use Rattle.yenc_lines.specs.declared.keyword.Begin.{Begin}
-use Rattle.yenc_lines.specs.Keywords.{Item, same_key, is_space, item_of, items_in, items_of, ybegin, number_of, number_in, name_in, item_fault, value_fault, first_item_fault, missing_key, key_fault_of, or_else, or_zero, unless_fault, begin_of}
+use Rattle.yenc_lines.specs.Keywords.{Item, same_key, is_space, item_of, items_in, items_of, ybegin, number_of, number_in, name_in, item_fault, value_fault, first_item_fault, missing_key, key_fault_of, or_else, unless_fault, begin_of}
 use Rattle.yenc_lines.specs.Gathered.{given, gathered, nothing, plain_of, named_of, missing_in, begin_with}
 use Rattle.yenc_lines.proofs.GatherLaws.{same_is, same_sym, HasNoName, Tells, tells, fails, at_first, given_nothing}
 

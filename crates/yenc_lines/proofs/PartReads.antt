@@ -9,9 +9,10 @@ use Rattle.std.proofs.lemmas.Bool.Decides.{nat_tests}
 use Rattle.std.proofs.lemmas.Fmt.{decimal_is_IsNumeral}
 use Rattle.yenc_lines.specs.declared.key.Key.TheVariants as key
 use Rattle.yenc_lines.specs.declared.keyword.PartLine.{PartLine}
-use Rattle.ub_base.specs.Numbers.{decimal_of, within}
-use Rattle.yenc_lines.specs.Keywords.{is_space, ypart, Item, items_in, items_of, part_of, unless_fault, or_else, first_item_fault, missing_key, number_in, or_zero}
+use Rattle.numbers.specs.Numbers.{decimal_of, within, or_zero}
+use Rattle.yenc_lines.specs.Keywords.{is_space, ypart, Item, items_in, items_of, part_of, unless_fault, or_else, first_item_fault, missing_key, number_in}
 use Rattle.yenc_lines.specs.KeywordText.{part_text}
+use Rattle.limits.specs.declared.TheConstants.{MOST_FILE_BYTES}
 
 -- ---- numbers
 
@@ -62,12 +63,12 @@ by_items : (line : List ℕ) (items : List Item) → starts_with nat_eq line ypa
 unfolding part_of
 by_items line items h e = rw (h, e) refl
 
-two_items : (begin end : List ℕ) (b e : ℕ) → within 1 1099511627776 (decimal_of begin) ≡ Some b → within 0 1099511627776 (decimal_of end) ≡ Some e → (items : List Item) →
+two_items : (begin end : List ℕ) (b e : ℕ) → within 1 MOST_FILE_BYTES (decimal_of begin) ≡ Some b → within 0 MOST_FILE_BYTES (decimal_of end) ≡ Some e → (items : List Item) →
     items ≡ record { key = key.Begin; value = begin } ∷ record { key = key.End; value = end } ∷ [] →
     unless_fault {A = PartLine} (or_else (first_item_fault [] items) (missing_key ypart.required items)) (record { begin = or_zero (number_in items key.Begin); end = or_zero (number_in items key.End) }) ≡ Ok (record { begin = b; end = e })
 two_items begin end b e p q items is = rw is (rw (p, q) refl)
 
-pub part_read : (p : PartLine) → 1 ≤ p.begin → p.begin ≤ 1099511627776 → p.end ≤ 1099511627776 → part_of (part_text p) ≡ Ok p
+pub part_read : (p : PartLine) → 1 ≤ p.begin → p.begin ≤ MOST_FILE_BYTES → p.end ≤ MOST_FILE_BYTES → part_of (part_text p) ≡ Ok p
 unfolding part_text
 part_read p low b e =
     let pieces : slice_split is_space (drop 7 (part_text p)) ≡ (codes "begin=" ++ decimal p.begin) ∷ (codes "end=" ++ decimal p.end) ∷ [] =
@@ -75,6 +76,6 @@ part_read p low b e =
     ∙ ap (λ (t : List (List ℕ)). (codes "begin=" ++ decimal p.begin) ∷ t) (last_piece (codes "end=" ++ decimal p.end) (decimal_no_space p.end (omega arith))) in
     let items : items_of ypart (part_text p) ≡ record { key = key.Begin; value = decimal p.begin } ∷ record { key = key.End; value = decimal p.end } ∷ [] =
     ap (λ (t : List (List ℕ)). items_in ypart.known t) pieces in
-    let begins : within 1 1099511627776 (decimal_of (decimal p.begin)) ≡ Some p.begin = ap (λ (o : Option ℕ). within 1 1099511627776 o) (decimal_read p.begin (omega arith)) ∙ within_is 1 1099511627776 p.begin low b in
-    let ends : within 0 1099511627776 (decimal_of (decimal p.end)) ≡ Some p.end = ap (λ (o : Option ℕ). within 0 1099511627776 o) (decimal_read p.end (omega arith)) ∙ within_is 0 1099511627776 p.end (omega arith) e in
+    let begins : within 1 MOST_FILE_BYTES (decimal_of (decimal p.begin)) ≡ Some p.begin = ap (λ (o : Option ℕ). within 1 MOST_FILE_BYTES o) (decimal_read p.begin (omega arith)) ∙ within_is 1 MOST_FILE_BYTES p.begin low b in
+    let ends : within 0 MOST_FILE_BYTES (decimal_of (decimal p.end)) ≡ Some p.end = ap (λ (o : Option ℕ). within 0 MOST_FILE_BYTES o) (decimal_read p.end (omega arith)) ∙ within_is 0 MOST_FILE_BYTES p.end (omega arith) e in
     by_items (part_text p) (items_of ypart (part_text p)) refl refl ∙ two_items (decimal p.begin) (decimal p.end) p.begin p.end begins ends (items_of ypart (part_text p)) items

@@ -1,9 +1,10 @@
 -- What the readers of part lines and of trailer lines answer.
 use Rattle.std.proofs.Common.{◌≡◌, ℕ, List, Option, Some, None, Ok, Err, refl, ap, ◌∙◌, get_or, unwrap_or}
+use Rattle.numbers.specs.Numbers.{or_zero}
 use Rattle.yenc_lines.specs.declared.key.Key.{Key}
 use Rattle.yenc_lines.specs.declared.key.Key.TheVariants as key
 use Rattle.yenc_lines.specs.declared.key.KeyFault.{KeyFault}
-use Rattle.yenc_lines.specs.Keywords.{ypart, yend, key_fault_of, items_of, number_in, or_zero, part_of, end_of}
+use Rattle.yenc_lines.specs.Keywords.{ypart, yend, key_fault_of, items_of, number_in, part_of, end_of}
 use Rattle.yenc_lines.specs.Gathered.{given, place}
 
 pub part_fails : (line : List ℕ) (f : KeyFault) → key_fault_of ypart line ≡ Some f → Err f ≡ part_of line

@@ -9,8 +9,8 @@ use Rattle.std.proofs.lemmas.List.Splits.{join_with_byte-slice_split, length-sli
 use Rattle.yenc_lines.specs.declared.key.Key.TheVariants as key
 use Rattle.yenc_lines.specs.declared.keyword.Begin.{Begin}
 use Rattle.yenc_lines.specs.declared.keyword.EndLine.{EndLine}
-use Rattle.ub_base.specs.Numbers.{decimal_of, hex32_of, within}
-use Rattle.yenc_lines.specs.Keywords.{is_space, is_name, trimmed, ybegin, yend, Item, items_in, items_of, begin_of, end_of, unless_fault, or_else, first_item_fault, missing_key, number_in, name_in, or_zero}
+use Rattle.numbers.specs.Numbers.{decimal_of, hex32_of, within, or_zero}
+use Rattle.yenc_lines.specs.Keywords.{is_space, is_name, trimmed, ybegin, yend, Item, items_in, items_of, begin_of, end_of, unless_fault, or_else, first_item_fault, missing_key, number_in, name_in}
 use Rattle.crc_field.specs.Hex.{hex_digit, hex_digits}
 use Rattle.yenc_lines.proofs.PartReads.{decimal_read, within_is}
 

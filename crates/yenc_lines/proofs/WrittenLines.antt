@@ -3,12 +3,13 @@ use Rattle.std.proofs.Common.{◌≡◌, ℕ, ◌^◌, ◌≤◌, true, List, []
 use Rattle.std.specs.Prelude.{codes, decimal, nat_eq}
 use Rattle.std.specs.List.{AllByRecursion, slice_split, starts_with}
 use Rattle.std.proofs.lemmas.List.{append-nil}
+use Rattle.numbers.specs.Numbers.{or_zero}
 use Rattle.crc_field.specs.Hex.{hex_digits}
 use Rattle.yenc_lines.specs.declared.key.Key.{Key}
 use Rattle.yenc_lines.specs.declared.key.Key.TheVariants as key
 use Rattle.yenc_lines.specs.declared.keyword.Begin.{Begin}
 use Rattle.yenc_lines.specs.declared.keyword.EndLine.{EndLine}
-use Rattle.yenc_lines.specs.Keywords.{is_space, is_name, ybegin, yend, Item, items_in, items_of, begin_of, end_of, unless_fault, or_else, first_item_fault, missing_key, number_in, name_in, or_zero}
+use Rattle.yenc_lines.specs.Keywords.{is_space, is_name, ybegin, yend, Item, items_in, items_of, begin_of, end_of, unless_fault, or_else, first_item_fault, missing_key, number_in, name_in}
 use Rattle.yenc_lines.specs.KeywordText.{item, begin_text, end_text}
 use Rattle.yenc_lines.specs.Name.{IsName}
 use Rattle.yenc_lines.specs.WrittenLines.{IsWithin}
@@ -16,6 +17,7 @@ use Rattle.yenc_lines.proofs.HeaderNames.{header_name}
 use Rattle.yenc_lines.proofs.PartReads.{decimal_no_space}
 use Rattle.yenc_lines.proofs.SpacedItems.{HasNoSpace, spaced, piece_of, item_then, pieces_then, all_pieces, AllByRecursion-append}
 use Rattle.yenc_lines.proofs.WrittenItems.{is_within, is_within_1, hex32_read, hex32_no_space, name_item, begin_by_items, end_by_items}
+use Rattle.limits.specs.declared.TheConstants.{MOST_FILE_BYTES}
 
 -- an item, where it is there
 abbrev item_with : Key → (ℕ → List ℕ) → Option ℕ → List Item
@@ -56,7 +58,7 @@ line_has_none : (n : Option ℕ) → IsWithin 0 4294967295 n → AllByRecursion 
 line_has_none None h = tt
 line_has_none (Some n) h = (decimal_no_space n (omega (arith, h)), tt)
 
-header_has_none : (part total line : Option ℕ) (size : ℕ) → IsWithin 1 4294967295 part → IsWithin 0 4294967295 total → IsWithin 0 4294967295 line → size ≤ 2 ^ 40 →
+header_has_none : (part total line : Option ℕ) (size : ℕ) → IsWithin 1 4294967295 part → IsWithin 0 4294967295 total → IsWithin 0 4294967295 line → size ≤ MOST_FILE_BYTES →
     AllByRecursion HasNoSpace (header_pieces part total line size)
 header_has_none part total line size p t l s =
     AllByRecursion-append _ _ (part_has_none part p) (AllByRecursion-append _ _ (total_has_none total t) (AllByRecursion-append _ _ (line_has_none line l) (decimal_no_space size (omega arith), tt)))
@@ -80,16 +82,16 @@ Said items b =
     (record { part = number_in items key.Part; total = number_in items key.Total; line = number_in items key.Line; size = or_zero (number_in items key.Size); name = name_in items })
     ≡ Ok b
 
-header_said : (part total line : Option ℕ) (size : ℕ) (name : List ℕ) → IsWithin 1 4294967295 part → IsWithin 0 4294967295 total → IsWithin 0 4294967295 line → size ≤ 2 ^ 40 → is_name name ≡ true →
+header_said : (part total line : Option ℕ) (size : ℕ) (name : List ℕ) → IsWithin 1 4294967295 part → IsWithin 0 4294967295 total → IsWithin 0 4294967295 line → size ≤ MOST_FILE_BYTES → is_name name ≡ true →
     (items : List Item) → items ≡ header_items part total line size (record { key = key.Name; value = name } ∷ []) → Said items (record { part = part; total = total; line = line; size = size; name = name })
-header_said None None None size name p t l s n items is = rw is (rw (is_within 1099511627776 size (omega arith) (omega arith), n) refl)
-header_said None None (Some c) size name p t l s n items is = rw is (rw (is_within 4294967295 c l.1 (omega arith), is_within 1099511627776 size (omega arith) (omega arith), n) refl)
-header_said None (Some b) None size name p t l s n items is = rw is (rw (is_within 4294967295 b t.1 (omega arith), is_within 1099511627776 size (omega arith) (omega arith), n) refl)
-header_said None (Some b) (Some c) size name p t l s n items is = rw is (rw (is_within 4294967295 b t.1 (omega arith), is_within 4294967295 c l.1 (omega arith), is_within 1099511627776 size (omega arith) (omega arith), n) refl)
-header_said (Some a) None None size name p t l s n items is = rw is (rw (is_within_1 4294967295 a p.0 p.1 (omega arith), is_within 1099511627776 size (omega arith) (omega arith), n) refl)
-header_said (Some a) None (Some c) size name p t l s n items is = rw is (rw (is_within_1 4294967295 a p.0 p.1 (omega arith), is_within 4294967295 c l.1 (omega arith), is_within 1099511627776 size (omega arith) (omega arith), n) refl)
-header_said (Some a) (Some b) None size name p t l s n items is = rw is (rw (is_within_1 4294967295 a p.0 p.1 (omega arith), is_within 4294967295 b t.1 (omega arith), is_within 1099511627776 size (omega arith) (omega arith), n) refl)
-header_said (Some a) (Some b) (Some c) size name p t l s n items is = rw is (rw (is_within_1 4294967295 a p.0 p.1 (omega arith), is_within 4294967295 b t.1 (omega arith), is_within 4294967295 c l.1 (omega arith), is_within 1099511627776 size (omega arith) (omega arith), n) refl)
+header_said None None None size name p t l s n items is = rw is (rw (is_within MOST_FILE_BYTES size (omega arith) (omega arith), n) refl)
+header_said None None (Some c) size name p t l s n items is = rw is (rw (is_within 4294967295 c l.1 (omega arith), is_within MOST_FILE_BYTES size (omega arith) (omega arith), n) refl)
+header_said None (Some b) None size name p t l s n items is = rw is (rw (is_within 4294967295 b t.1 (omega arith), is_within MOST_FILE_BYTES size (omega arith) (omega arith), n) refl)
+header_said None (Some b) (Some c) size name p t l s n items is = rw is (rw (is_within 4294967295 b t.1 (omega arith), is_within 4294967295 c l.1 (omega arith), is_within MOST_FILE_BYTES size (omega arith) (omega arith), n) refl)
+header_said (Some a) None None size name p t l s n items is = rw is (rw (is_within_1 4294967295 a p.0 p.1 (omega arith), is_within MOST_FILE_BYTES size (omega arith) (omega arith), n) refl)
+header_said (Some a) None (Some c) size name p t l s n items is = rw is (rw (is_within_1 4294967295 a p.0 p.1 (omega arith), is_within 4294967295 c l.1 (omega arith), is_within MOST_FILE_BYTES size (omega arith) (omega arith), n) refl)
+header_said (Some a) (Some b) None size name p t l s n items is = rw is (rw (is_within_1 4294967295 a p.0 p.1 (omega arith), is_within 4294967295 b t.1 (omega arith), is_within MOST_FILE_BYTES size (omega arith) (omega arith), n) refl)
+header_said (Some a) (Some b) (Some c) size name p t l s n items is = rw is (rw (is_within_1 4294967295 a p.0 p.1 (omega arith), is_within 4294967295 b t.1 (omega arith), is_within 4294967295 c l.1 (omega arith), is_within MOST_FILE_BYTES size (omega arith) (omega arith), n) refl)
 
 begins : (part total line : Option ℕ) (size : ℕ) (name : List ℕ) → starts_with nat_eq (codes "=ybegin" ++ (spaced (header_pieces part total line size) ++ (codes " name=" ++ name))) ybegin.word ≡ true
 begins None None None size name = refl
@@ -97,7 +99,7 @@ begins None None (Some l) size name = refl
 begins None (Some t) line size name = refl
 begins (Some p) total line size name = refl
 
-pub header_read : (b : Begin) → IsWithin 1 4294967295 b.part → IsWithin 0 4294967295 b.total → IsWithin 0 4294967295 b.line → b.size ≤ 2 ^ 40 → IsName b.name → begin_of (begin_text b) ≡ Ok b
+pub header_read : (b : Begin) → IsWithin 1 4294967295 b.part → IsWithin 0 4294967295 b.total → IsWithin 0 4294967295 b.line → b.size ≤ MOST_FILE_BYTES → IsName b.name → begin_of (begin_text b) ≡ Ok b
 unfolding begin_text
 header_read b p t l s n =
     let name = header_name b.name n in
@@ -163,18 +165,18 @@ TrailerSaid items e =
     (record { size = or_zero (number_in items key.Size); part = number_in items key.Part; pcrc32 = number_in items key.Pcrc32; crc32 = number_in items key.Crc32 })
     ≡ Ok e
 
-trailer_said : (size : ℕ) (part pcrc32 crc32 : Option ℕ) → IsWithin 1 4294967295 part → IsWithin 0 4294967295 pcrc32 → IsWithin 0 4294967295 crc32 → size ≤ 2 ^ 40 →
+trailer_said : (size : ℕ) (part pcrc32 crc32 : Option ℕ) → IsWithin 1 4294967295 part → IsWithin 0 4294967295 pcrc32 → IsWithin 0 4294967295 crc32 → size ≤ MOST_FILE_BYTES →
     (items : List Item) → items ≡ trailer_items size part pcrc32 crc32 → TrailerSaid items (record { size = size; part = part; pcrc32 = pcrc32; crc32 = crc32 })
-trailer_said size None None None p q c s items is = rw is (rw (is_within 1099511627776 size (omega arith) (omega arith)) refl)
-trailer_said size None None (Some z) p q c s items is = rw is (rw (is_within 1099511627776 size (omega arith) (omega arith), hex32_read z (omega (arith, c))) refl)
-trailer_said size None (Some y) None p q c s items is = rw is (rw (is_within 1099511627776 size (omega arith) (omega arith), hex32_read y (omega (arith, q))) refl)
-trailer_said size None (Some y) (Some z) p q c s items is = rw is (rw (is_within 1099511627776 size (omega arith) (omega arith), hex32_read y (omega (arith, q)), hex32_read z (omega (arith, c))) refl)
-trailer_said size (Some x) None None p q c s items is = rw is (rw (is_within 1099511627776 size (omega arith) (omega arith), is_within_1 4294967295 x p.0 p.1 (omega arith)) refl)
-trailer_said size (Some x) None (Some z) p q c s items is = rw is (rw (is_within 1099511627776 size (omega arith) (omega arith), is_within_1 4294967295 x p.0 p.1 (omega arith), hex32_read z (omega (arith, c))) refl)
-trailer_said size (Some x) (Some y) None p q c s items is = rw is (rw (is_within 1099511627776 size (omega arith) (omega arith), is_within_1 4294967295 x p.0 p.1 (omega arith), hex32_read y (omega (arith, q))) refl)
-trailer_said size (Some x) (Some y) (Some z) p q c s items is = rw is (rw (is_within 1099511627776 size (omega arith) (omega arith), is_within_1 4294967295 x p.0 p.1 (omega arith), hex32_read y (omega (arith, q)), hex32_read z (omega (arith, c))) refl)
+trailer_said size None None None p q c s items is = rw is (rw (is_within MOST_FILE_BYTES size (omega arith) (omega arith)) refl)
+trailer_said size None None (Some z) p q c s items is = rw is (rw (is_within MOST_FILE_BYTES size (omega arith) (omega arith), hex32_read z (omega (arith, c))) refl)
+trailer_said size None (Some y) None p q c s items is = rw is (rw (is_within MOST_FILE_BYTES size (omega arith) (omega arith), hex32_read y (omega (arith, q))) refl)
+trailer_said size None (Some y) (Some z) p q c s items is = rw is (rw (is_within MOST_FILE_BYTES size (omega arith) (omega arith), hex32_read y (omega (arith, q)), hex32_read z (omega (arith, c))) refl)
+trailer_said size (Some x) None None p q c s items is = rw is (rw (is_within MOST_FILE_BYTES size (omega arith) (omega arith), is_within_1 4294967295 x p.0 p.1 (omega arith)) refl)
+trailer_said size (Some x) None (Some z) p q c s items is = rw is (rw (is_within MOST_FILE_BYTES size (omega arith) (omega arith), is_within_1 4294967295 x p.0 p.1 (omega arith), hex32_read z (omega (arith, c))) refl)
+trailer_said size (Some x) (Some y) None p q c s items is = rw is (rw (is_within MOST_FILE_BYTES size (omega arith) (omega arith), is_within_1 4294967295 x p.0 p.1 (omega arith), hex32_read y (omega (arith, q))) refl)
+trailer_said size (Some x) (Some y) (Some z) p q c s items is = rw is (rw (is_within MOST_FILE_BYTES size (omega arith) (omega arith), is_within_1 4294967295 x p.0 p.1 (omega arith), hex32_read y (omega (arith, q)), hex32_read z (omega (arith, c))) refl)
 
-pub trailer_read : (e : EndLine) → IsWithin 1 4294967295 e.part → IsWithin 0 4294967295 e.pcrc32 → IsWithin 0 4294967295 e.crc32 → e.size ≤ 2 ^ 40 → end_of (end_text e) ≡ Ok e
+pub trailer_read : (e : EndLine) → IsWithin 1 4294967295 e.part → IsWithin 0 4294967295 e.pcrc32 → IsWithin 0 4294967295 e.crc32 → e.size ≤ MOST_FILE_BYTES → end_of (end_text e) ≡ Ok e
 unfolding end_text
 trailer_read e p q c s =
     let text : end_text e ≡ codes "=yend" ++ (item (codes "size") decimal (Some e.size) ++ spaced (after_size e.part e.pcrc32 e.crc32)) =

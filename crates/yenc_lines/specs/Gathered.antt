@@ -1,11 +1,12 @@
 -- The numbers of a line's items, taken from left to right up to the first item that fails.
 use Rattle.std.specs.Prelude.{ℕ, if◌then◌else◌, List, [], ◌∷◌, replicate, Option, Some, None, Result, Ok, Err, is_some, not, filter, find, option_map, slice_index_or, slice_set}
+use Rattle.numbers.specs.Numbers.{or_zero}
 use Rattle.yenc_lines.specs.declared.key.Key.{Key}
 use Rattle.yenc_lines.specs.declared.key.Key.TheVariants as key
 use Rattle.yenc_lines.specs.declared.key.KeyFault.{KeyFault}
 use Rattle.yenc_lines.specs.declared.key.KeyFault.TheVariants.{BadNumber, NoItem, Repeated}
 use Rattle.yenc_lines.specs.declared.keyword.Begin.{Begin}
-use Rattle.yenc_lines.specs.Keywords.{Item, number_of, or_zero, same_key, unless_fault}
+use Rattle.yenc_lines.specs.Keywords.{Item, number_of, same_key, unless_fault}
 
 -- the place of a key's number
 abbrev pub place : Key → ℕ

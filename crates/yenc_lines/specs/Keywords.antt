@@ -2,7 +2,7 @@
 -- and `pcrc32` "Multi-part Encoded Binaries"). The ranges of numbers are this project's; the draft has none.
 use Rattle.std.specs.Prelude.{ℕ, ◌-◌, Bool, not, ◌&&◌, nat_le, nat_eq, ◌==◌, if◌then◌else◌, List, [], ◌∷◌, length, take, drop, find, Option, Some, None, Result, Ok, Err, is_some, option_map, option_and_then, codes, bytes_eq}
 use Rattle.std.specs.List.{starts_with, slice_split, before_first, after_first, prefix_len, suffix_len, join_with_byte, list_any}
-use Rattle.ub_base.specs.Numbers.{decimal_of, hex32_of, within}
+use Rattle.numbers.specs.Numbers.{decimal_of, hex32_of, within, or_zero}
 use Rattle.yenc_lines.specs.Name.{has_no_line_end}
 use Rattle.yenc_lines.specs.declared.key.Key.{Key}
 use Rattle.yenc_lines.specs.declared.key.Key.TheVariants as key
@@ -11,6 +11,7 @@ use Rattle.yenc_lines.specs.declared.key.KeyFault.TheVariants.{NotIt, NoItem, Ba
 use Rattle.yenc_lines.specs.declared.keyword.Begin.{Begin}
 use Rattle.yenc_lines.specs.declared.keyword.PartLine.{PartLine}
 use Rattle.yenc_lines.specs.declared.keyword.EndLine.{EndLine}
+use Rattle.limits.specs.declared.TheConstants.{MOST_FILE_BYTES}
 
 -- ---- keys
 
@@ -35,10 +36,10 @@ abbrev pub number_of : Key → List ℕ → Option ℕ
 number_of key.Part value = within 1 4294967295 (decimal_of value)
 number_of key.Total value = within 0 4294967295 (decimal_of value)
 number_of key.Line value = within 0 4294967295 (decimal_of value)
-number_of key.Size value = within 0 1099511627776 (decimal_of value)
+number_of key.Size value = within 0 MOST_FILE_BYTES (decimal_of value)
 number_of key.Name value = None
-number_of key.Begin value = within 1 1099511627776 (decimal_of value)
-number_of key.End value = within 0 1099511627776 (decimal_of value)
+number_of key.Begin value = within 1 MOST_FILE_BYTES (decimal_of value)
+number_of key.End value = within 0 MOST_FILE_BYTES (decimal_of value)
 number_of key.Pcrc32 value = hex32_of value
 number_of key.Crc32 value = hex32_of value
 
@@ -150,11 +151,6 @@ number_in items k = option_and_then (λ item. number_of k item.value) (find (λ 
 abbrev pub name_in : List Item → List ℕ
 name_in [] = []
 name_in (item ∷ items) = if same_key item.key key.Name then item.value else name_in items
-
--- a required number
-abbrev pub or_zero : Option ℕ → ℕ
-or_zero None = 0
-or_zero (Some n) = n
 
 -- what stands where there is no fault
 abbrev pub unless_fault : {A : Type 0} → Option KeyFault → A → Result A KeyFault

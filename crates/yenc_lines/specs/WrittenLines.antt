@@ -6,6 +6,7 @@ use Rattle.yenc_lines.specs.declared.keyword.EndLine.{EndLine}
 use Rattle.yenc_lines.specs.Name.{IsName}
 use Rattle.yenc_lines.specs.KeywordText.{begin_text, part_text, end_text}
 use Rattle.yenc_lines.specs.Keywords.{begin_of, part_of, end_of}
+use Rattle.limits.specs.declared.TheConstants.{MOST_FILE_BYTES}
 
 -- a number from `low` to `high`, where there is one
 abbrev pub IsWithin : ℕ → ℕ → Option ℕ → Type 0
@@ -15,13 +16,13 @@ IsWithin low high (Some n) = (low ≤ n) × (n ≤ high)
 -- a header line
 abbrev pub HeaderIsRead : Type 0
 HeaderIsRead = (b : Begin) → IsWithin 1 4294967295 b.part → IsWithin 0 4294967295 b.total → IsWithin 0 4294967295 b.line →
-    b.size ≤ 2 ^ 40 → IsName b.name → begin_of (begin_text b) ≡ Ok b
+    b.size ≤ MOST_FILE_BYTES → IsName b.name → begin_of (begin_text b) ≡ Ok b
 
 -- a part line
 abbrev pub PartLineIsRead : Type 0
-PartLineIsRead = (p : PartLine) → 1 ≤ p.begin → p.begin ≤ 2 ^ 40 → p.end ≤ 2 ^ 40 → part_of (part_text p) ≡ Ok p
+PartLineIsRead = (p : PartLine) → 1 ≤ p.begin → p.begin ≤ MOST_FILE_BYTES → p.end ≤ MOST_FILE_BYTES → part_of (part_text p) ≡ Ok p
 
 -- a trailer line
 abbrev pub TrailerIsRead : Type 0
 TrailerIsRead = (e : EndLine) → IsWithin 1 4294967295 e.part → IsWithin 0 4294967295 e.pcrc32 → IsWithin 0 4294967295 e.crc32 →
-    e.size ≤ 2 ^ 40 → end_of (end_text e) ≡ Ok e
+    e.size ≤ MOST_FILE_BYTES → end_of (end_text e) ≡ Ok e

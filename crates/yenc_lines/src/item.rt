@@ -1,14 +1,12 @@
 // The items of a keyword line.
 ghost use Rattle.std.specs.Prelude.{◌≡◌, ◌≤◌, ◌==◌, length, find, bytes_eq, MatchOption};
 ghost use Rattle.std.specs.List.{position_or_len};
-ghost use Rattle.ub_base.specs.Numbers.{decimal_of, within};
+ghost use Rattle.numbers.specs.Numbers.{decimal_of, within};
 ghost use Rattle.yenc_lines.specs.Keywords.{item_of, key_name, number_of};
 
 use crate::Key;
-use ub_base::{read_dec, read_hex32};
-
-// The greatest size of a file, and place in it.
-const MOST: u64 = 1 << 40;
+use limits::MOST_FILE_BYTES;
+use numbers::{read_dec, read_hex32};
 
 // The place of the first of these bytes, or the length where there is none.
 pub(crate) fn first_at(text: &[u8], byte: u8) -> usize
@@ -54,8 +52,8 @@ pub(crate) fn number_of(key: Key, value: &[u8]) -> Option<u64>
     match key {
         Key::Part => read_from_1(value, u64::from(u32::MAX)),
         Key::Total | Key::Line => read_dec(value, u64::from(u32::MAX)),
-        Key::Size | Key::End => read_dec(value, MOST),
-        Key::Begin => read_from_1(value, MOST),
+        Key::Size | Key::End => read_dec(value, MOST_FILE_BYTES),
+        Key::Begin => read_from_1(value, MOST_FILE_BYTES),
         Key::Pcrc32 | Key::Crc32 => read_hex32(value).map(u64::from),
         Key::Name => None,
     }

@@ -1,7 +1,8 @@
 // The name in a header line.
-ghost use Rattle.std.specs.Prelude.{◌≡◌, ◌≤◌, ◌↔◌, length, take, IsTrue, IsSome, IfSome};
+ghost use Rattle.std.specs.Prelude.{◌≡◌, ◌≤◌, ◌↔◌, length, IsTrue, IsSome, IfSome};
 ghost use Rattle.yenc_lines.specs.Name.{IsName, has_no_line_end, is_line_end, is_trimmed};
 
+use lists::Short;
 use std::marker::Model;
 
 // The greatest length in bytes.
@@ -11,19 +12,18 @@ const MOST: usize = 255;
 /// or LF, and no space at either end. Contracts see the list of bytes.
 #[derive(Clone, Debug, Drop)]
 pub struct Name {
-    bytes: [u8; MOST],
-    len: usize,
+    text: Short<MOST>,
 }
 
 impl Model for Name {
-    ghost use Rattle.std.specs.Prelude.{ℕ, List, ◌≤◌, take};
+    ghost use Rattle.std.specs.Prelude.{ℕ, List};
     ghost use Rattle.yenc_lines.specs.Name.{IsName};
 
     ghost Value = { List ℕ };
 
-    ghost view = { λ name. take name.len name.bytes };
+    ghost view = { λ name. name.text };
 
-    ghost invariant = { λ name. (name.len ≤ 255) × IsName (take name.len name.bytes) };
+    ghost invariant = { λ name. IsName name.text };
 }
 
 impl Name {
@@ -35,12 +35,8 @@ impl Name {
         if !is_name(bytes) {
             return None;
         }
-        let mut own = [0; MOST];
-        own[..bytes.len()].copy_from_slice(bytes);
-        Some(Name {
-            bytes: own,
-            len: bytes.len(),
-        })
+        let text = Short::new(bytes)?;
+        Some(Name { text })
     }
 
     /// All bytes, in order.
@@ -48,7 +44,7 @@ impl Name {
         ensures bytes { result.now ≡ self.now }
         ensures rule { IsName self.now }
     {
-        &self.bytes[..self.len]
+        self.text.as_slice()
     }
 }
 

@@ -1,21 +1,10 @@
-// Text behind the first bytes of a line.
+// Items behind the first bytes of a line.
 ghost use Rattle.std.specs.Prelude.{◌≡◌, ◌≤◌, ◌+◌, ◌++◌, length, take, codes, decimal};
 ghost use Rattle.crc_field.specs.Hex.{hex_digits};
 ghost use Rattle.yenc_lines.specs.KeywordText.{item};
 
 use crc_field::write_hex;
-use ub_base::write_dec;
-
-// Puts a text behind the first `at` bytes, and answers where it ends.
-pub(crate) fn put(out: &mut [u8; 1024], at: usize, text: &[u8]) -> usize
-    requires { at + length text.now ≤ 1024 }
-    ensures text { take result out.new ≡ take at out.old ++ text.now }
-    ensures end { result ≡ at + length text.now }
-{
-    let end = at + text.len();
-    out[at..end].copy_from_slice(text);
-    end
-}
+use numbers::{put, write_dec};
 
 // Puts an item whose value has this text.
 fn put_item(out: &mut [u8; 1024], at: usize, key: &[u8], value: &[u8]) -> usize

@@ -1,16 +1,18 @@
 // Keyword lines as text.
 ghost use Rattle.std.specs.Prelude.{◌≡◌, ◌≤◌, ◌^◌, take, IfSome};
 ghost use Rattle.yenc_lines.specs.KeywordText.{begin_text, end_text, part_text};
+ghost use Rattle.limits.specs.declared.TheConstants.{MOST_FILE_BYTES};
 
-use crate::put::{put, put_crc, put_decimal, put_number};
+use crate::put::{put_crc, put_decimal, put_number};
 use crate::{Begin, EndLine, PartLine};
+use numbers::put;
 
 /// Writes a header line, without a line end, to the front of a buffer, and answers its length in bytes (yEnc draft 1.3,
 /// "Headers and Trailers"). A part is numbered from 1, and a file has at most 2^40 bytes.
 #[tactic(auto, unfolding(crate::specs::KeywordText::begin_text))]
 pub fn write_begin(v: &Begin, out: &mut [u8; 1024]) -> usize
     requires part { IfSome v.now.part (λ n. 1 ≤ n) }
-    requires size { v.now.size ≤ 2 ^ 40 }
+    requires size { v.now.size ≤ MOST_FILE_BYTES }
     ensures text { take result out.new ≡ begin_text v.now }
     ensures room { result ≤ 1024 }
 {
@@ -28,8 +30,8 @@ pub fn write_begin(v: &Begin, out: &mut [u8; 1024]) -> usize
 #[tactic(auto, unfolding(crate::specs::KeywordText::part_text))]
 pub fn write_part(v: &PartLine, out: &mut [u8; 1024]) -> usize
     requires first { 1 ≤ v.now.begin }
-    requires begin { v.now.begin ≤ 2 ^ 40 }
-    requires end { v.now.end ≤ 2 ^ 40 }
+    requires begin { v.now.begin ≤ MOST_FILE_BYTES }
+    requires end { v.now.end ≤ MOST_FILE_BYTES }
     ensures text { take result out.new ≡ part_text v.now }
     ensures room { result ≤ 1024 }
 {
@@ -43,7 +45,7 @@ pub fn write_part(v: &PartLine, out: &mut [u8; 1024]) -> usize
 #[tactic(auto, unfolding(crate::specs::KeywordText::end_text))]
 pub fn write_end(v: &EndLine, out: &mut [u8; 1024]) -> usize
     requires part { IfSome v.now.part (λ n. 1 ≤ n) }
-    requires size { v.now.size ≤ 2 ^ 40 }
+    requires size { v.now.size ≤ MOST_FILE_BYTES }
     ensures text { take result out.new ≡ end_text v.now }
     ensures room { result ≤ 1024 }
 {

@@ -1,6 +1,6 @@
 use Rattle.std.proofs.Common.{◌≡◌, true, false}
 use Rattle.nntp_lines.specs.GroupName.{is_group_byte}
-use Rattle.news_server.proofs.WordTests.{word_from_test}
+use Rattle.server_logins.proofs.WordTests.{word_from_test}
 use Rattle.command_words.proofs.index.group_of.Goals as goal
 
 pub unreachable-requires : goal.unreachable-requires

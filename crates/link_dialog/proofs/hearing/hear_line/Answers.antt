@@ -36,7 +36,7 @@ loop-len-preserved-in-More g c =
       live = c.in-Bytes.ensures.live ∙ c.loop-len.invariant.live;
       small = c.feed-fed.ensures.small;
       room = rw c.receive.auto.buf c.loop-len.invariant.room;
-      heard = line_more (g.L.Links.trace c.args.links.now) (g.L.Links.trace c.loop-len.links) (g.L.Links.trace c.receive.new.self) c.args.link c.args.patience c.args.kind c.loop-len.reader c.feed-fed.new.self c.loop-len.quiet piece c.feed-fed.result.used
+      heard = line_more (g.L.Links.trace c.args.links.now) (g.L.Links.trace c.loop-len.links) (g.L.Links.trace c.receive.new.links) c.args.link c.args.patience c.args.kind c.loop-len.reader c.feed-fed.new.self c.loop-len.quiet piece c.feed-fed.result.used
           c.loop-len.invariant.heard c.in-Bytes.ensures.trace
           (piece_some c.in-Bytes.len c.receive.new.buf c.loop-len.buf c.receive.auto.buf c.in-Bytes.ensures.count)
           (subst (λ (s : Step). ReadAt c.args.kind piece c.feed-fed.result.used s c.loop-len.reader c.feed-fed.new.self) c.in-More.is c.feed-fed.ensures.reads)
@@ -47,7 +47,7 @@ loop-len-preserved-in-More g c =
 pub returns-in-Line-clause-heard : goal.returns-in-Line-clause-heard
 returns-in-Line-clause-heard g c =
     let piece = take c.in-Bytes.len c.receive.new.buf in
-    line_ends (g.L.Links.trace c.args.links.now) (g.L.Links.trace c.loop-len.links) (g.L.Links.trace c.receive.new.self) c.args.link c.args.patience c.args.kind c.loop-len.reader c.feed-fed.new.self c.loop-len.quiet piece c.feed-fed.result.used c.in-Line.code
+    line_ends (g.L.Links.trace c.args.links.now) (g.L.Links.trace c.loop-len.links) (g.L.Links.trace c.receive.new.links) c.args.link c.args.patience c.args.kind c.loop-len.reader c.feed-fed.new.self c.loop-len.quiet piece c.feed-fed.result.used c.in-Line.code
     c.loop-len.invariant.heard c.in-Bytes.ensures.trace
     (subst (λ (s : Step). ReadAt c.args.kind piece c.feed-fed.result.used s c.loop-len.reader c.feed-fed.new.self) c.in-Line.is c.feed-fed.ensures.reads)
     (subst (λ (s : Step). FedAt c.args.patience c.args.link c.args.kind piece c.feed-fed.result.used s c.loop-len.reader) c.in-Line.is
@@ -56,14 +56,14 @@ returns-in-Line-clause-heard g c =
 pub returns-in-Over-clause-heard : goal.returns-in-Over-clause-heard
 returns-in-Over-clause-heard g c =
     let piece = take c.in-Bytes.len c.receive.new.buf in
-    line_over (g.L.Links.trace c.args.links.now) (g.L.Links.trace c.loop-len.links) (g.L.Links.trace c.receive.new.self) c.args.link c.args.patience c.args.kind c.loop-len.reader c.loop-len.quiet piece c.feed-fed.result.used c.in-Over.why
+    line_over (g.L.Links.trace c.args.links.now) (g.L.Links.trace c.loop-len.links) (g.L.Links.trace c.receive.new.links) c.args.link c.args.patience c.args.kind c.loop-len.reader c.loop-len.quiet piece c.feed-fed.result.used c.in-Over.why
     c.loop-len.invariant.heard c.in-Bytes.ensures.trace
     (subst (λ (s : Step). FedAt c.args.patience c.args.link c.args.kind piece c.feed-fed.result.used s c.loop-len.reader) c.in-Over.is
     (λ asked moment replies rest stands listening. c.feed-fed.ensures.fed c.args.patience c.args.link asked moment replies rest c.requires.patient stands listening))
 
 pub returns-then-quiet-patience-clause-heard : goal.returns-then-quiet-patience-clause-heard
 returns-then-quiet-patience-clause-heard g c =
-    quiet_to_end (g.L.Links.trace c.args.links.now) (g.L.Links.trace c.loop-len.links) (g.L.Links.trace c.receive.new.self) c.args.link c.args.patience c.args.kind c.loop-len.quiet c.loop-len.invariant.heard.so_far c.in-Quiet.ensures.trace c.if-quiet-patience.true
+    quiet_to_end (g.L.Links.trace c.args.links.now) (g.L.Links.trace c.loop-len.links) (g.L.Links.trace c.receive.new.links) c.args.link c.args.patience c.args.kind c.loop-len.quiet c.loop-len.invariant.heard.so_far c.in-Quiet.ensures.trace c.if-quiet-patience.true
 
 pub loop-len-preserved : goal.loop-len-preserved
 loop-len-preserved g c = record {
@@ -72,13 +72,13 @@ loop-len-preserved g c = record {
   live = c.in-Quiet.ensures.live ∙ c.loop-len.invariant.live;
   small = c.loop-len.invariant.small;
   room = rw c.receive.auto.buf c.loop-len.invariant.room;
-  heard = line_quiet (g.L.Links.trace c.args.links.now) (g.L.Links.trace c.loop-len.links) (g.L.Links.trace c.receive.new.self) c.args.link c.args.patience c.args.kind c.loop-len.reader c.loop-len.quiet c.loop-len.invariant.heard c.in-Quiet.ensures.trace c.if-quiet-patience.false;
+  heard = line_quiet (g.L.Links.trace c.args.links.now) (g.L.Links.trace c.loop-len.links) (g.L.Links.trace c.receive.new.links) c.args.link c.args.patience c.args.kind c.loop-len.reader c.loop-len.quiet c.loop-len.invariant.heard c.in-Quiet.ensures.trace c.if-quiet-patience.false;
 }
 
 pub returns-in-Closed-clause-heard : goal.returns-in-Closed-clause-heard
 returns-in-Closed-clause-heard g c =
-    ended_to_end (g.L.Links.trace c.args.links.now) (g.L.Links.trace c.loop-len.links) (g.L.Links.trace c.receive.new.self) c.args.link c.args.patience c.args.kind c.loop-len.quiet c.loop-len.invariant.heard.so_far c.in-Closed.ensures.trace
+    ended_to_end (g.L.Links.trace c.args.links.now) (g.L.Links.trace c.loop-len.links) (g.L.Links.trace c.receive.new.links) c.args.link c.args.patience c.args.kind c.loop-len.quiet c.loop-len.invariant.heard.so_far c.in-Closed.ensures.trace
 
 pub returns-in-Failed-clause-heard : goal.returns-in-Failed-clause-heard
 returns-in-Failed-clause-heard g c =
-    ended_to_end (g.L.Links.trace c.args.links.now) (g.L.Links.trace c.loop-len.links) (g.L.Links.trace c.receive.new.self) c.args.link c.args.patience c.args.kind c.loop-len.quiet c.loop-len.invariant.heard.so_far c.in-Failed.ensures.trace
+    ended_to_end (g.L.Links.trace c.args.links.now) (g.L.Links.trace c.loop-len.links) (g.L.Links.trace c.receive.new.links) c.args.link c.args.patience c.args.kind c.loop-len.quiet c.loop-len.invariant.heard.so_far c.in-Failed.ensures.trace

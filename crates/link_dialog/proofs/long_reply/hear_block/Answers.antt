@@ -35,9 +35,9 @@ loop-len-preserved-in-More g c =
       room = rw c.receive.auto.buf c.loop-len.invariant.room;
       so_far = λ before begun.
           let s = c.loop-len.invariant.so_far before begun in
-          let p = new_piece_at before (g.L.Links.trace c.loop-len.links) (g.L.Links.trace c.receive.new.self) c.args.link c.args.patience c.args.kind c.args.code c.loop-len.reader c.loop-len.block c.loop-len.quiet piece s c.in-Bytes.ensures.trace
+          let p = new_piece_at before (g.L.Links.trace c.loop-len.links) (g.L.Links.trace c.receive.new.links) c.args.link c.args.patience c.args.kind c.args.code c.loop-len.reader c.loop-len.block c.loop-len.quiet piece s c.in-Bytes.ensures.trace
           (piece_some c.in-Bytes.len c.receive.new.buf c.loop-len.buf c.receive.auto.buf c.in-Bytes.ensures.count) in
-          piece_more before (g.L.Links.trace c.receive.new.self) c.args.link c.args.patience c.args.kind c.args.code piece 0 s.block c.loop-len.reader c.step.new.self c.loop-len.block c.step.new.block
+          piece_more before (g.L.Links.trace c.receive.new.links) c.args.link c.args.patience c.args.kind c.args.code piece 0 s.block c.loop-len.reader c.step.new.self c.loop-len.block c.step.new.block
           c.requires.patient c.requires.block p.0 s.stands p.1
           (subst (λ (t : BlockStep). Steps c.loop-len.reader c.loop-len.block c.step.new.self c.step.new.block s.block piece t) c.in-More.is (c.step.ensures.steps s.block));
     }
@@ -47,10 +47,10 @@ returns-then-used-len-clause-heard g c before begun =
     let piece = take c.in-Bytes.len c.receive.new.buf in
     let s = c.loop-len.invariant.so_far before begun in
     let long = piece_long c.in-Bytes.len c.receive.new.buf c.loop-len.buf c.receive.auto.buf c.in-Bytes.ensures.count in
-    let p = new_piece_at before (g.L.Links.trace c.loop-len.links) (g.L.Links.trace c.receive.new.self) c.args.link c.args.patience c.args.kind c.args.code c.loop-len.reader c.loop-len.block c.loop-len.quiet piece s c.in-Bytes.ensures.trace
+    let p = new_piece_at before (g.L.Links.trace c.loop-len.links) (g.L.Links.trace c.receive.new.links) c.args.link c.args.patience c.args.kind c.args.code c.loop-len.reader c.loop-len.block c.loop-len.quiet piece s c.in-Bytes.ensures.trace
     (piece_some c.in-Bytes.len c.receive.new.buf c.loop-len.buf c.receive.auto.buf c.in-Bytes.ensures.count) in
     let all = c.if-used-len.true in
-    answers_whole before (g.L.Links.trace c.receive.new.self) c.args.link c.args.patience c.args.kind c.args.code piece 0 s.block c.loop-len.reader c.step.new.self c.loop-len.block c.step.new.block c.in-End.used
+    answers_whole before (g.L.Links.trace c.receive.new.links) c.args.link c.args.patience c.args.kind c.args.code piece 0 s.block c.loop-len.reader c.step.new.self c.loop-len.block c.step.new.block c.in-End.used
     c.requires.patient c.requires.meant c.requires.block p.0 s.stands p.1
     (subst (λ (t : BlockStep). Steps c.loop-len.reader c.loop-len.block c.step.new.self c.step.new.block s.block piece t) c.in-End.is (c.step.ensures.steps s.block))
     (omega (arith, long, all))
@@ -60,12 +60,12 @@ returns-in-End-clause-heard g c before begun =
     let piece = take c.in-Bytes.len c.receive.new.buf in
     let s = c.loop-len.invariant.so_far before begun in
     let long = piece_long c.in-Bytes.len c.receive.new.buf c.loop-len.buf c.receive.auto.buf c.in-Bytes.ensures.count in
-    let p = new_piece_at before (g.L.Links.trace c.loop-len.links) (g.L.Links.trace c.receive.new.self) c.args.link c.args.patience c.args.kind c.args.code c.loop-len.reader c.loop-len.block c.loop-len.quiet piece s c.in-Bytes.ensures.trace
+    let p = new_piece_at before (g.L.Links.trace c.loop-len.links) (g.L.Links.trace c.receive.new.links) c.args.link c.args.patience c.args.kind c.args.code c.loop-len.reader c.loop-len.block c.loop-len.quiet piece s c.in-Bytes.ensures.trace
     (piece_some c.in-Bytes.len c.receive.new.buf c.loop-len.buf c.receive.auto.buf c.in-Bytes.ensures.count) in
     let steps = subst (λ (t : BlockStep). Steps c.loop-len.reader c.loop-len.block c.step.new.self c.step.new.block s.block piece t) c.in-End.is (c.step.ensures.steps s.block) in
     let other = c.if-used-len.false in
     let fits = (steps s.stands).1 in
-    answers_early before (g.L.Links.trace c.receive.new.self) c.args.link c.args.patience c.args.kind c.args.code piece 0 s.block c.loop-len.reader c.step.new.self c.loop-len.block c.step.new.block c.in-End.used
+    answers_early before (g.L.Links.trace c.receive.new.links) c.args.link c.args.patience c.args.kind c.args.code piece 0 s.block c.loop-len.reader c.step.new.self c.loop-len.block c.step.new.block c.in-End.used
     c.requires.patient c.requires.meant c.requires.block p.0 s.stands p.1 steps
     (omega (arith, long, other, fits))
 
@@ -73,9 +73,9 @@ pub returns-in-TooLong-clause-heard : goal.returns-in-TooLong-clause-heard
 returns-in-TooLong-clause-heard g c before begun =
     let piece = take c.in-Bytes.len c.receive.new.buf in
     let s = c.loop-len.invariant.so_far before begun in
-    let p = new_piece_at before (g.L.Links.trace c.loop-len.links) (g.L.Links.trace c.receive.new.self) c.args.link c.args.patience c.args.kind c.args.code c.loop-len.reader c.loop-len.block c.loop-len.quiet piece s c.in-Bytes.ensures.trace
+    let p = new_piece_at before (g.L.Links.trace c.loop-len.links) (g.L.Links.trace c.receive.new.links) c.args.link c.args.patience c.args.kind c.args.code c.loop-len.reader c.loop-len.block c.loop-len.quiet piece s c.in-Bytes.ensures.trace
     (piece_some c.in-Bytes.len c.receive.new.buf c.loop-len.buf c.receive.auto.buf c.in-Bytes.ensures.count) in
-    answers_too_long before (g.L.Links.trace c.receive.new.self) c.args.link c.args.patience c.args.kind c.args.code piece 0 s.block c.loop-len.reader c.step.new.self c.loop-len.block c.step.new.block
+    answers_too_long before (g.L.Links.trace c.receive.new.links) c.args.link c.args.patience c.args.kind c.args.code piece 0 s.block c.loop-len.reader c.step.new.self c.loop-len.block c.step.new.block
     c.requires.patient c.requires.block p.0 s.stands p.1
     (subst (λ (t : BlockStep). Steps c.loop-len.reader c.loop-len.block c.step.new.self c.step.new.block s.block piece t) c.in-TooLong.is (c.step.ensures.steps s.block))
 
@@ -88,7 +88,7 @@ loop-len-smaller-in-More g c =
 
 pub returns-then-quiet-patience-clause-heard : goal.returns-then-quiet-patience-clause-heard
 returns-then-quiet-patience-clause-heard g c before begun =
-    quiet_to_end before (g.L.Links.trace c.loop-len.links) (g.L.Links.trace c.receive.new.self) c.args.link c.args.patience c.args.kind c.loop-len.quiet (c.loop-len.invariant.so_far before begun).so_far c.in-Quiet.ensures.trace c.if-quiet-patience.true
+    quiet_to_end before (g.L.Links.trace c.loop-len.links) (g.L.Links.trace c.receive.new.links) c.args.link c.args.patience c.args.kind c.loop-len.quiet (c.loop-len.invariant.so_far before begun).so_far c.in-Quiet.ensures.trace c.if-quiet-patience.true
 
 pub loop-len-preserved : goal.loop-len-preserved
 loop-len-preserved g c = record {
@@ -98,13 +98,13 @@ loop-len-preserved g c = record {
   small = c.loop-len.invariant.small;
   room = rw c.receive.auto.buf c.loop-len.invariant.room;
   so_far = λ before begun.
-      block_quiet before (g.L.Links.trace c.loop-len.links) (g.L.Links.trace c.receive.new.self) c.args.link c.args.patience c.args.kind c.args.code c.loop-len.reader c.loop-len.block c.loop-len.quiet (c.loop-len.invariant.so_far before begun) c.in-Quiet.ensures.trace c.if-quiet-patience.false;
+      block_quiet before (g.L.Links.trace c.loop-len.links) (g.L.Links.trace c.receive.new.links) c.args.link c.args.patience c.args.kind c.args.code c.loop-len.reader c.loop-len.block c.loop-len.quiet (c.loop-len.invariant.so_far before begun) c.in-Quiet.ensures.trace c.if-quiet-patience.false;
 }
 
 pub returns-in-Closed-clause-heard : goal.returns-in-Closed-clause-heard
 returns-in-Closed-clause-heard g c before begun =
-    ended_to_end before (g.L.Links.trace c.loop-len.links) (g.L.Links.trace c.receive.new.self) c.args.link c.args.patience c.args.kind c.loop-len.quiet (c.loop-len.invariant.so_far before begun).so_far c.in-Closed.ensures.trace
+    ended_to_end before (g.L.Links.trace c.loop-len.links) (g.L.Links.trace c.receive.new.links) c.args.link c.args.patience c.args.kind c.loop-len.quiet (c.loop-len.invariant.so_far before begun).so_far c.in-Closed.ensures.trace
 
 pub returns-in-Failed-clause-heard : goal.returns-in-Failed-clause-heard
 returns-in-Failed-clause-heard g c before begun =
-    ended_to_end before (g.L.Links.trace c.loop-len.links) (g.L.Links.trace c.receive.new.self) c.args.link c.args.patience c.args.kind c.loop-len.quiet (c.loop-len.invariant.so_far before begun).so_far c.in-Failed.ensures.trace
+    ended_to_end before (g.L.Links.trace c.loop-len.links) (g.L.Links.trace c.receive.new.links) c.args.link c.args.patience c.args.kind c.loop-len.quiet (c.loop-len.invariant.so_far before begun).so_far c.in-Failed.ensures.trace

@@ -4,12 +4,13 @@ use Rattle.nzb_index.specs.Nzb.{segment_count}
 use Rattle.nzb_index.specs.NzbReading.{entry_item}
 use Rattle.nzb_index.proofs.Children.{StillChildren}
 use Rattle.nzb_index.proofs.entries.entries_end.Given as goal
+use Rattle.limits.specs.declared.TheConstants.{MOST_SEGMENTS}
 
 abbrev pub invariant-children : goal.invariant-children
 invariant-children l = record {
   still : StillChildren entry_item (codes "nzb") l.text l.at l.end l.initial.index l.index;
   count : l.count ≡ segment_count l.index;
-  few : l.count ≤ 262144;
+  few : l.count ≤ MOST_SEGMENTS;
 }
 
 abbrev pub decreases-children : goal.decreases-children

@@ -8,6 +8,7 @@ use Rattle.nzb_index.specs.Elements.{bare}
 use Rattle.nzb_index.specs.Tags.{attributes_of}
 use Rattle.nzb_index.proofs.EntryEnds.{id_is_good, message_id_is, number_read, segment_number, segment_read}
 use Rattle.nzb_index.proofs.entries.segment_end.Goals as goal
+use Rattle.limits.specs.declared.TheConstants.{MOST_SEGMENTS}
 
 abbrev tag_of : List (List ℕ) → List (List ℕ) → Bool → Tag
 tag_of names values closed = record { attributes = attributes_of names values; closed = closed }
@@ -36,7 +37,7 @@ returns c =
     let few = c.requires.few in
     let len = c.len.ensures in
     let below = c.if-len-earlier.false in
-    let room : c.args.earlier + length c.args.segments.now < 262144 = omega (arith, few, len, below) in
+    let room : c.args.earlier + length c.args.segments.now < MOST_SEGMENTS = omega (arith, few, len, below) in
     let max = c.from.ensures in
     let n = number_read segment_checks (codes "number") rest here mid 4294967295 tag.3 segment_number in
     let number : c.number-number.result ≡ number_of (codes "number") here.attributes = rw max at c.number-number.ensures.value ∙ n in

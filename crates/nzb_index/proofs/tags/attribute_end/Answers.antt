@@ -1,32 +1,32 @@
-use Rattle.std.proofs.Common.{ℕ, Option, sym, ap, ◌∙◌, arith, ◌<◌}
-use Rattle.std.specs.Prelude.{is_some}
+use Rattle.std.proofs.Common.{sym, ◌∙◌, arith, ◌<◌}
+use Rattle.std.proofs.lemmas.Bool.{not-false, not-true}
 use Rattle.std.proofs.lemmas.Result.{err_from_is_err_and}
 use Rattle.nzb_index.specs.Tags.{attributes_of, checks_of}
 use Rattle.nzb_index.proofs.TagEnds.{Named, Valued, has_place, attribute_double, attribute_equals_fails, attribute_value_fails, attribute_bad, attribute_reads}
 use Rattle.nzb_index.proofs.tags.attribute_end.Goals as goal
 
-pub returns-then-is_some : goal.returns-then-is_some
-returns-then-is_some c =
+pub returns-then-not-new-clause-read : goal.returns-then-not-new-clause-read
+returns-then-not-new-clause-read c =
     let n = c.in_ok-name.ensures in
     let is_named : Named c.args.text.now c.args.at c.in_ok-name.name = record { behind = n.0; within = n.1; read = n.2 } in
-    rw c.refused.ensures (attribute_double (checks_of c.args.element) (attributes_of c.args.scratch.now.names c.args.scratch.now.values) c.args.text.now c.args.at c.in_ok-name.name is_named (has_place _ c.args.scratch.now.names c.args.scratch.now.values c.requires.pairs ∙ sym (c.is_some.ensures ∙ ap (λ (o : Option ℕ). is_some o) c.place_of.ensures) ∙ c.if-is_some.true))
+    rw c.refused.ensures (attribute_double (checks_of c.args.element) (attributes_of c.args.scratch.now.names c.args.scratch.now.values) c.args.text.now c.args.at c.in_ok-name.name is_named (has_place _ c.args.scratch.now.names c.args.scratch.now.values c.requires.pairs ∙ not-false _ (sym c.in_ok-new.ensures.new ∙ c.if-not-new.true)))
 
-pub returns-in_err-equals : goal.returns-in_err-equals
-returns-in_err-equals c =
+pub returns-in_err-equals-clause-read : goal.returns-in_err-equals-clause-read
+returns-in_err-equals-clause-read c =
     let p = err_from_is_err_and c.from_residual-in_err-equals.result c.from_residual-in_err-equals.ensures.1 in
     let n = c.in_ok-name.ensures in
     let is_named : Named c.args.text.now c.args.at c.in_ok-name.name = record { behind = n.0; within = n.1; read = n.2 } in
-    rw (p.1, p.2) (attribute_equals_fails (checks_of c.args.element) (attributes_of c.args.scratch.now.names c.args.scratch.now.values) c.args.text.now c.args.at c.in_ok-name.name c.white_end.result c.in_err-equals.field-0.0 is_named (has_place _ c.args.scratch.now.names c.args.scratch.now.values c.requires.pairs ∙ sym (c.is_some.ensures ∙ ap (λ (o : Option ℕ). is_some o) c.place_of.ensures) ∙ c.if-is_some.false) c.white_end.ensures.white c.in_err-equals.ensures)
+    rw (p.1, p.2) (attribute_equals_fails (checks_of c.args.element) (attributes_of c.args.scratch.now.names c.args.scratch.now.values) c.args.text.now c.args.at c.in_ok-name.name c.white_end.result c.in_err-equals.field-0.0 is_named (has_place _ c.args.scratch.now.names c.args.scratch.now.values c.requires.pairs ∙ not-true _ (sym c.in_ok-new.ensures.new ∙ c.if-not-new.false)) c.white_end.ensures.white c.in_err-equals.ensures)
 
-pub returns-in_err-end : goal.returns-in_err-end
-returns-in_err-end c =
+pub returns-in_err-end-clause-read : goal.returns-in_err-end-clause-read
+returns-in_err-end-clause-read c =
     let p = err_from_is_err_and c.from_residual-in_err-end.result c.from_residual-in_err-end.ensures.1 in
     let n = c.in_ok-name.ensures in
     let is_named : Named c.args.text.now c.args.at c.in_ok-name.name = record { behind = n.0; within = n.1; read = n.2 } in
     let q = c.in_ok-equals.ensures in
     let there : Valued (attributes_of c.args.scratch.now.names c.args.scratch.now.values) c.args.text.now c.args.at c.in_ok-name.name c.white_end-2.result = record {
       is_named = is_named;
-      is_new = (has_place _ c.args.scratch.now.names c.args.scratch.now.values c.requires.pairs ∙ sym (c.is_some.ensures ∙ ap (λ (o : Option ℕ). is_some o) c.place_of.ensures) ∙ c.if-is_some.false);
+      is_new = (has_place _ c.args.scratch.now.names c.args.scratch.now.values c.requires.pairs ∙ not-true _ (sym c.in_ok-new.ensures.new ∙ c.if-not-new.false));
       here = c.white_end.result;
       equals = c.in_ok-equals.equals;
       no_white = c.white_end.ensures.white;
@@ -35,14 +35,14 @@ returns-in_err-end c =
     } in
     rw (p.1, p.2) (attribute_value_fails (checks_of c.args.element) (attributes_of c.args.scratch.now.names c.args.scratch.now.values) c.args.text.now c.args.at c.in_ok-name.name c.white_end-2.result c.in_err-end.field-0.0 there c.in_err-end.ensures)
 
-pub returns-then-not-allows : goal.returns-then-not-allows
-returns-then-not-allows c =
+pub returns-then-not-allows-clause-read : goal.returns-then-not-allows-clause-read
+returns-then-not-allows-clause-read c =
     let n = c.in_ok-name.ensures in
     let is_named : Named c.args.text.now c.args.at c.in_ok-name.name = record { behind = n.0; within = n.1; read = n.2 } in
     let q = c.in_ok-equals.ensures in
     let there : Valued (attributes_of c.args.scratch.now.names c.args.scratch.now.values) c.args.text.now c.args.at c.in_ok-name.name c.white_end-2.result = record {
       is_named = is_named;
-      is_new = (has_place _ c.args.scratch.now.names c.args.scratch.now.values c.requires.pairs ∙ sym (c.is_some.ensures ∙ ap (λ (o : Option ℕ). is_some o) c.place_of.ensures) ∙ c.if-is_some.false);
+      is_new = (has_place _ c.args.scratch.now.names c.args.scratch.now.values c.requires.pairs ∙ not-true _ (sym c.in_ok-new.ensures.new ∙ c.if-not-new.false));
       here = c.white_end.result;
       equals = c.in_ok-equals.equals;
       no_white = c.white_end.ensures.white;
@@ -55,14 +55,14 @@ returns-then-not-allows c =
     let t = c.if-not-allows.true in
     rw c.refused-then-not-allows.ensures (attribute_bad (checks_of c.args.element) (attributes_of c.args.scratch.now.names c.args.scratch.now.values) c.args.text.now c.quoted_end.new.out c.args.at c.in_ok-name.name c.white_end-2.result c.in_ok-end.end there v.2 (cc (s, a, t)))
 
-pub returns : goal.returns
-returns c =
+pub returns-clause-read : goal.returns-clause-read
+returns-clause-read c =
     let n = c.in_ok-name.ensures in
     let is_named : Named c.args.text.now c.args.at c.in_ok-name.name = record { behind = n.0; within = n.1; read = n.2 } in
     let q = c.in_ok-equals.ensures in
     let there : Valued (attributes_of c.args.scratch.now.names c.args.scratch.now.values) c.args.text.now c.args.at c.in_ok-name.name c.white_end-2.result = record {
       is_named = is_named;
-      is_new = (has_place _ c.args.scratch.now.names c.args.scratch.now.values c.requires.pairs ∙ sym (c.is_some.ensures ∙ ap (λ (o : Option ℕ). is_some o) c.place_of.ensures) ∙ c.if-is_some.false);
+      is_new = (has_place _ c.args.scratch.now.names c.args.scratch.now.values c.requires.pairs ∙ not-true _ (sym c.in_ok-new.ensures.new ∙ c.if-not-new.false));
       here = c.white_end.result;
       equals = c.in_ok-equals.equals;
       no_white = c.white_end.ensures.white;

@@ -7,8 +7,9 @@ use Rattle.link_dialog.specs.declared.awaited.Awaited.TheVariants.{Over as TheOv
 use Rattle.link_dialog.specs.Dialog.{Message, message_of}
 use Rattle.link_dialog.specs.Talk.{IsSaid, patience_of}
 use Rattle.link_dialog.specs.TalkBlock.{IsBlockHeard}
+use Rattle.link_dialog.proofs.Sessions.{quit_at_end}
 use Rattle.overview_index.specs.Session.{Range, over_message}
-use Rattle.overview_index.proofs.AskingSteps.{range_heard, range_heard_at_end, range_refused, quit_at_end}
+use Rattle.overview_index.proofs.AskingSteps.{range_heard, range_heard_at_end, range_refused}
 use Rattle.overview_index.proofs.asking.ask.Goals as goal
 
 pub returns-in-Err-clause-asked : goal.returns-in-Err-clause-asked

@@ -5,8 +5,9 @@ use Rattle.nntp_lines.specs.declared.why.Why.TheVariants as why
 use Rattle.link_dialog.specs.declared.awaited.Awaited.TheVariants.{Group}
 use Rattle.link_dialog.specs.Dialog.{Message, message_of}
 use Rattle.link_dialog.specs.Talk.{IsSaid, line_reply, patience_of}
+use Rattle.link_dialog.proofs.Sessions.{quit_at_end}
 use Rattle.overview_index.specs.Session.{group_message}
-use Rattle.overview_index.proofs.AskingSteps.{group_over, group_refused, group_chosen, group_chosen_at_end, quit_at_end}
+use Rattle.overview_index.proofs.AskingSteps.{group_over, group_refused, group_chosen, group_chosen_at_end}
 use Rattle.overview_index.proofs.asking.choose.Goals as goal
 
 pub returns-in-Err-clause-ends : goal.returns-in-Err-clause-ends

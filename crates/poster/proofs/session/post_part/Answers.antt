@@ -14,7 +14,8 @@ returns-in-Answered-clause-ends g c s size content start u made =
 pub returns-in-Refused-clause-ends : goal.returns-in-Refused-clause-ends
 returns-in-Refused-clause-ends g c s size content start u made =
     let next : IsNext s size (length c.args.sent.now) content start (g.L.Links.trace c.args.links.now) c.args.dialog (c.args.part - 1) c.args.part (made_on c.args.desk.now) c.args.sent.now = record { under_way = u; next = omega (arith, c.requires.first); last = c.requires.last; made_is = made } in
-    part_refused s size (length c.args.sent.now) content start (g.L.Links.trace c.args.links.now) (g.L.Links.trace c.post_article.new.links) c.args.dialog (c.args.part - 1) c.args.part (made_on c.args.desk.now) c.in-Refused.code c.args.sent.now c.set-in-Refused.new.self next c.set-in-Refused.ensures (c.in-Refused.ensures.posted start (messages_of (blocks_of u.mades)) u.replies u.rests)
+    let posted = c.in-Refused.ensures.posted start (messages_of (blocks_of u.mades)) u.replies u.rests in
+    part_refused s size (length c.args.sent.now) content start (g.L.Links.trace c.args.links.now) (g.L.Links.trace c.post_article.new.links) c.args.dialog (c.args.part - 1) c.args.part (made_on c.args.desk.now) c.in-Refused.code c.args.sent.now c.set-in-Refused.new.self next c.set-in-Refused.ensures posted.0 posted.1
 
 pub returns-then-part-eq1-clause-ends : goal.returns-then-part-eq1-clause-ends
 returns-then-part-eq1-clause-ends g c s size content start u made =

@@ -49,4 +49,4 @@ returns-in-Err-clause-ends g c start u =
     let posted = subst (λ (n : ℕ). UnderWay c.args.settings.now c.args.plan.now.size n (g.I.Input.content c.args.input.now) start (g.L.Links.trace c.post_part.new.links) c.args.dialog c.loop-end.part c.post_part.new.sent) c.loop-end.invariant.all
     (c.in-None.ensures.ends c.args.settings.now c.args.plan.now.size (g.I.Input.content c.args.input.now) start before c.loop-end.invariant.made) in
     part_stopped c.args.settings.now c.args.plan.now.size (length c.args.plan.now.parts) (g.I.Input.content c.args.input.now) start (g.L.Links.trace c.post_part.new.links) (g.L.Links.trace c.quit-in-Err.new.links) c.args.dialog c.loop-end.part c.post_part.new.sent posted
-    c.loop-end.invariant.first (omega (arith, c.loop-end.invariant.last, c.len-total.ensures)) (c.quit-in-Err.ensures.quits start (messages_of (blocks_of posted.mades)) posted.replies posted.rests)
+    c.loop-end.invariant.first (omega (arith, c.if-part-total.false, c.len-total.ensures)) (c.quit-in-Err.ensures.quits start (messages_of (blocks_of posted.mades)) posted.replies posted.rests)

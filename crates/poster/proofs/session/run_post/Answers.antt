@@ -6,7 +6,7 @@ use Rattle.poster.specs.Posting.{made_on}
 use Rattle.poster.specs.Session.{HasSent, WasOver, WasRefused, WasStopped}
 use Rattle.poster.specs.declared.session.RunEnd.{RunEnd}
 use Rattle.poster.proofs.DeskLemmas.{some_part}
-use Rattle.poster.proofs.RunLemmas.{reads_from, ends_unmade, start_is, start_of, opens, over_at_opening, sent_fits, refused_fits}
+use Rattle.poster.proofs.RunLemmas.{reads_from, ends_unmade, start_is, start_of, opens, over_at_opening, sent_fits, refused_fits, sent_stops, refused_stops}
 use Rattle.poster.proofs.SaidLemmas.{count_of_outcomes}
 use Rattle.poster.proofs.session.run_post.Goals as goal
 
@@ -41,10 +41,20 @@ returns-in-Ok-Sent-clause-outcomes g c =
     let under = opens c.args.settings.now c.args.plan.now.size (length c.args.plan.now.parts) (g.I.Input.content c.make_part.new.input) (start_of (g.L.Links.trace c.args.links.now) c.as_slice.result.now (option_copied c.as_ref.result)) (start_of (g.L.Links.trace c.args.links.now) c.args.settings.now.server c.args.settings.now.login) (g.L.Links.trace c.open.new.links) (g.L.Links.live c.open.new.links) c.in-Ok-open.dialog c.len.result c.in-Ok-unsent.sent (start_is (g.L.Links.trace c.args.links.now) c.as_slice.result.now c.args.settings.now.server (option_copied c.as_ref.result) c.args.settings.now.login c.as_slice.ensures c.as_ref.ensures.value) c.len.ensures c.in-Ok-unsent.ensures c.in-Ok-open.ensures.opened in
     sent_fits c.args.settings.now c.args.plan.now.size c.args.plan.now (g.I.Input.content c.make_part.new.input) (start_of (g.L.Links.trace c.args.links.now) c.args.settings.now.server c.args.settings.now.login) (g.L.Links.trace c.post_parts.new.links) c.post_parts.new.sent (rw c.in-Ok-Sent.field-0-is at (c.in-Ok-Sent.ensures.ends (start_of (g.L.Links.trace c.args.links.now) c.args.settings.now.server c.args.settings.now.login) under))
 
+pub returns-in-Ok-Sent-clause-stops : goal.returns-in-Ok-Sent-clause-stops
+returns-in-Ok-Sent-clause-stops g c =
+    let under = opens c.args.settings.now c.args.plan.now.size (length c.args.plan.now.parts) (g.I.Input.content c.make_part.new.input) (start_of (g.L.Links.trace c.args.links.now) c.as_slice.result.now (option_copied c.as_ref.result)) (start_of (g.L.Links.trace c.args.links.now) c.args.settings.now.server c.args.settings.now.login) (g.L.Links.trace c.open.new.links) (g.L.Links.live c.open.new.links) c.in-Ok-open.dialog c.len.result c.in-Ok-unsent.sent (start_is (g.L.Links.trace c.args.links.now) c.as_slice.result.now c.args.settings.now.server (option_copied c.as_ref.result) c.args.settings.now.login c.as_slice.ensures c.as_ref.ensures.value) c.len.ensures c.in-Ok-unsent.ensures c.in-Ok-open.ensures.opened in
+    sent_stops c.args.settings.now c.args.plan.now.size (length c.args.plan.now.parts) (g.I.Input.content c.make_part.new.input) (start_of (g.L.Links.trace c.args.links.now) c.args.settings.now.server c.args.settings.now.login) (g.L.Links.trace c.post_parts.new.links) c.post_parts.new.sent (rw c.in-Ok-Sent.field-0-is at (c.in-Ok-Sent.ensures.ends (start_of (g.L.Links.trace c.args.links.now) c.args.settings.now.server c.args.settings.now.login) under))
+
 pub returns-in-Ok-Refused-clause-outcomes : goal.returns-in-Ok-Refused-clause-outcomes
 returns-in-Ok-Refused-clause-outcomes g c =
     let under = opens c.args.settings.now c.args.plan.now.size (length c.args.plan.now.parts) (g.I.Input.content c.make_part.new.input) (start_of (g.L.Links.trace c.args.links.now) c.as_slice.result.now (option_copied c.as_ref.result)) (start_of (g.L.Links.trace c.args.links.now) c.args.settings.now.server c.args.settings.now.login) (g.L.Links.trace c.open.new.links) (g.L.Links.live c.open.new.links) c.in-Ok-open.dialog c.len.result c.in-Ok-unsent.sent (start_is (g.L.Links.trace c.args.links.now) c.as_slice.result.now c.args.settings.now.server (option_copied c.as_ref.result) c.args.settings.now.login c.as_slice.ensures c.as_ref.ensures.value) c.len.ensures c.in-Ok-unsent.ensures c.in-Ok-open.ensures.opened in
     refused_fits c.args.settings.now c.args.plan.now.size c.args.plan.now (g.I.Input.content c.make_part.new.input) (start_of (g.L.Links.trace c.args.links.now) c.args.settings.now.server c.args.settings.now.login) (g.L.Links.trace c.post_parts.new.links) c.in-Ok-Refused.code c.post_parts.new.sent (rw c.in-Ok-Refused.field-0-is at (c.in-Ok-Refused.ensures.ends (start_of (g.L.Links.trace c.args.links.now) c.args.settings.now.server c.args.settings.now.login) under))
+
+pub returns-in-Ok-Refused-clause-stops : goal.returns-in-Ok-Refused-clause-stops
+returns-in-Ok-Refused-clause-stops g c =
+    let under = opens c.args.settings.now c.args.plan.now.size (length c.args.plan.now.parts) (g.I.Input.content c.make_part.new.input) (start_of (g.L.Links.trace c.args.links.now) c.as_slice.result.now (option_copied c.as_ref.result)) (start_of (g.L.Links.trace c.args.links.now) c.args.settings.now.server c.args.settings.now.login) (g.L.Links.trace c.open.new.links) (g.L.Links.live c.open.new.links) c.in-Ok-open.dialog c.len.result c.in-Ok-unsent.sent (start_is (g.L.Links.trace c.args.links.now) c.as_slice.result.now c.args.settings.now.server (option_copied c.as_ref.result) c.args.settings.now.login c.as_slice.ensures c.as_ref.ensures.value) c.len.ensures c.in-Ok-unsent.ensures c.in-Ok-open.ensures.opened in
+    refused_stops c.args.settings.now c.args.plan.now.size (length c.args.plan.now.parts) (g.I.Input.content c.make_part.new.input) (start_of (g.L.Links.trace c.args.links.now) c.args.settings.now.server c.args.settings.now.login) (g.L.Links.trace c.post_parts.new.links) c.in-Ok-Refused.code c.post_parts.new.sent (rw c.in-Ok-Refused.field-0-is at (c.in-Ok-Refused.ensures.ends (start_of (g.L.Links.trace c.args.links.now) c.args.settings.now.server c.args.settings.now.login) under))
 
 pub returns-clause-ends : goal.returns-clause-ends
 returns-clause-ends g c =

@@ -1,5 +1,5 @@
 use Rattle.std.proofs.Common.{◌≡◌, ◌≤◌, ◌-◌, length, take}
-use Rattle.ub_base.specs.Sink.{told_and}
+use Rattle.io_traits.specs.Sink.{told_and}
 use Rattle.usebin_cli.proofs.writing.write_all.Given as goal
 
 abbrev pub invariant-loop-at : goal.invariant-loop-at

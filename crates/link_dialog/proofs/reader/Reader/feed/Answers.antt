@@ -2,7 +2,7 @@
 use Rattle.std.proofs.Common.{List, ℕ, sym, arith, refl, subst, append-nil}
 use Rattle.link_dialog.specs.declared.reader.Step.TheVariants.{More, Line, Over}
 use Rattle.link_dialog.specs.Reader.{StandsFor}
-use Rattle.link_dialog.proofs.Feeding.{step_in_piece, line_goes_on_in, line_ends_in, all_listened, all_stands, nothing_yet}
+use Rattle.link_dialog.proofs.Feeding.{step_in_piece, line_goes_on_in, line_ends_in, all_listened, all_stands, nothing_yet, line_ended_at, link_ended_at}
 use Rattle.link_dialog.proofs.reader.Reader.feed.Goals as goal
 
 pub loop-i-init : goal.loop-i-init
@@ -42,3 +42,10 @@ returns-clause-reads c rest stands = (refl, all_stands rest c.args.piece.now c.l
 pub returns-clause-fed : goal.returns-clause-fed
 returns-clause-fed c p link asked m replies rest some stands listening =
     all_listened p link asked m replies c.args.kind rest c.args.piece.now c.loop-i.i (omega arith) (c.loop-i.invariant.fed p link asked m replies rest some stands listening)
+
+pub returns-in-Line-clause-ends : goal.returns-in-Line-clause-ends
+returns-in-Line-clause-ends c rest stands = line_ended_at c.args.kind rest c.args.piece.now c.loop-i.i c.in-Line.code c.loop-i.self (c.loop-i.invariant.stands rest stands)
+
+pub returns-in-Over-clause-ends : goal.returns-in-Over-clause-ends
+returns-in-Over-clause-ends c rest stands =
+    link_ended_at c.args.kind rest c.args.piece.now c.loop-i.i c.in-Over.why c.loop-i.self c.step.new.self c.loop-i-test.true (c.loop-i.invariant.stands rest stands) c.in-Over.ensures.says

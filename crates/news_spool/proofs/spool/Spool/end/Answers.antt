@@ -1,6 +1,6 @@
 -- The link stays with its server.
 use Rattle.std.proofs.Common.{rules, ◌<◌, ap, arith, length}
-use Rattle.ub_base.specs.LinkLog.{log_live}
+use Rattle.io_memory.specs.LinkLog.{log_live}
 use Rattle.news_spool.specs.declared.link_state.LinkState.{LinkState}
 use Rattle.news_spool.proofs.Served.{live_inside, same_server}
 use Rattle.news_spool.proofs.spool.Spool.end.Goals as goal

@@ -1,5 +1,5 @@
 use Rattle.std.proofs.Common.{rules, length}
-use Rattle.ub_base.specs.declared.links.Got.TheVariants as got
+use Rattle.io_traits.specs.declared.links.Got.TheVariants as got
 use Rattle.news_spool.proofs.Histories.{receives}
 use Rattle.news_spool.proofs.spool.SpoolLinks.receive.Goals as goal
 

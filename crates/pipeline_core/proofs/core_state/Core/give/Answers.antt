@@ -1,10 +1,12 @@
-use Rattle.std.proofs.Common.{◌≡◌, ◌<◌, ◌∙◌, ◌+◌, sym, ap, Some, length, arith, subst, refl, set}
+use Rattle.std.proofs.Common.{◌≡◌, ◌<◌, ◌∙◌, ◌+◌, List, false, sym, ap, Some, length, arith, subst, refl, set}
 use Rattle.std.specs.Prelude.{slice_get}
 use Rattle.std.proofs.lemmas.Option.{slice_get_read}
 use Rattle.pipeline_core.specs.LinkAt.{LinkAt}
+use Rattle.pipeline_core.specs.SegmentAt.{SegmentAt}
 use Rattle.pipeline_core.specs.Links.{with_asked}
 use Rattle.pipeline_core.specs.PipelineAt.{Pipeline}
 use Rattle.pipeline_core.specs.Pipeline.{after_next, next_segment}
+use Rattle.pipeline_core.specs.Searches.{is_arrived_at}
 use Rattle.pipeline_core.specs.Sound.{IsSound}
 use Rattle.pipeline_core.proofs.Calls.{sound-next, view-link}
 use Rattle.pipeline_core.proofs.Free.{IsNext, is_next, next_found}
@@ -61,12 +63,13 @@ invariant_of-self c =
     let fits = c.self.invariant.sound.limited.each c.args.link c.index_mut-asker.result.now read in
     let small : c.index_mut-asker.result.now.server < 16 = omega (arith, fits.0, c.self.invariant.sound.limited.few_servers) in
     let lows : c.note_asked.new.self.lows ≡ set c.self.inside.places.lows c.index_mut-asker.result.now.server (c.args.segment + 1) = c.note_asked.ensures.lows ∙ ap (λ v. set c.self.inside.places.lows v (c.args.segment + 1)) c.server-server.ensures in
+    let waited : c.first_to_come-self-inside.result < length p.segments → is_arrived_at (slice_get p.segments c.first_to_come-self-inside.result) ≡ false = subst (λ (ss : List SegmentAt). c.first_to_come-self-inside.result < length ss → is_arrived_at (slice_get ss c.first_to_come-self-inside.result) ≡ false) c.deref.ensures.value c.first_to_come-self-inside.ensures.waited in
     record {
       sound = subst (λ (l : LinkAt). IsSound (set p.links c.args.link l) p.segments (set c.self.inside.holders.items c.args.segment (Some c.args.link)) p.levels p.depth) (sym c.ask.ensures)
           (sound-next p c.self.inside.holders.items c.args.link c.args.segment c.index_mut-asker.result.now c.self.invariant.sound read next);
       placed = placed-as (view-link c.self.inside.links.items c.self.inside.segments.items c.self.inside.levels.items c.self.inside.depth c.args.link (with_asked c.args.segment) c.index_mut-asker.result.now c.ask.new.self read c.ask.ensures) lows refl c.note_asked.ensures.decided
-          (placed-next p c.args.link c.args.segment c.index_mut-asker.result.now c.self.inside.places.lows c.self.inside.places.fresh c.note_asked.new.self.fresh c.self.inside.places.decided read next
-          (next_found p c.args.link c.args.segment c.index_mut-asker.result.now read asks) small c.note_asked.ensures.kept c.note_asked.ensures.past c.self.invariant.placed);
+          (placed-next p c.args.link c.args.segment c.index_mut-asker.result.now c.self.inside.places.lows c.self.inside.places.fresh c.first_to_come-self-inside.result c.self.inside.places.decided read next
+          (next_found p c.args.link c.args.segment c.index_mut-asker.result.now read asks) small (omega (arith, c.note_asked.ensures.kept, c.first_to_come-self-inside.ensures.onward)) (omega (arith, c.note_asked.ensures.past, c.first_to_come-self-inside.ensures.onward)) waited c.self.invariant.placed);
     }
 
 pub returns : goal.returns

@@ -17,7 +17,7 @@ invariant_of-self c =
     let read : slice_get c.self.inside.links.items c.args.link ≡ Some c.index_mut.result.now = slice_get_read c.self.inside.links.items (length c.self.inside.links.items) c.args.link c.index_mut.result.now refl within c.index_mut.ensures.value in
     record {
       sound = sound-same c.self.inside.links.items c.self.inside.segments.items c.self.inside.holders.items c.self.inside.levels.items c.self.inside.depth c.args.link c.index_mut.result.now c.greet.new.self c.self.invariant.sound read
-          (ap (λ (l : LinkAt). l.server) c.greet.ensures) (ap (λ (l : LinkAt). l.asked) c.greet.ensures);
+          (ap (λ (l : LinkAt). l.server) c.greet.ensures) (ap (λ (l : LinkAt). l.asked) c.greet.ensures) (ap (λ (l : LinkAt). l.over) c.greet.ensures);
       placed = placed-as (view-link c.self.inside.links.items c.self.inside.segments.items c.self.inside.levels.items c.self.inside.depth c.args.link with_greeting c.index_mut.result.now c.greet.new.self read c.greet.ensures) refl refl refl (placed-greeted p c.args.link c.index_mut.result.now c.self.inside.places.lows c.self.inside.places.fresh c.self.inside.places.decided read c.self.invariant.placed);
     }
 

@@ -1,0 +1,24 @@
+//! The worked cases of yEnc: spellings, keyword lines and whole bodies, the kernels below them, and the decoder of a block in
+//! pieces of every size.
+#![tactic(auto)]
+
+#[cfg(test)]
+mod accepted;
+#[cfg(test)]
+mod block_fixtures;
+#[cfg(test)]
+mod bodies;
+#[cfg(test)]
+mod decoding;
+#[cfg(test)]
+mod fixtures;
+#[cfg(test)]
+mod landings;
+#[cfg(test)]
+mod reading;
+#[cfg(test)]
+mod refused;
+#[cfg(test)]
+mod spellings;
+#[cfg(test)]
+mod sums;

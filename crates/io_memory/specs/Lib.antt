@@ -1,0 +1,6 @@
+pub mod InMemory
+pub mod LinkLog
+pub mod Log
+pub mod Script
+pub mod ScriptLinks
+pub mod Sends

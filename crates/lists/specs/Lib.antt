@@ -1,0 +1,3 @@
+pub mod Edit
+pub mod Lines
+pub mod Text

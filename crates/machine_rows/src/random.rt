@@ -1,0 +1,188 @@
+// Calls at random, and a plain program that has a mark for each offset.
+use crate::fixtures::{accept, claim, release};
+use range_assembler::{Assembler, Clash, OtherSize};
+use std::test::Fail;
+
+const OFFSETS: usize = 64;
+
+const SEGMENTS: usize = 24;
+
+// A file's marks: at each offset the segment that holds it, and whether it is accepted.
+#[derive(Clone, Copy, Drop)]
+struct Marks {
+    holder: [u32; 66],
+    accepted: [bool; 66],
+    size: Option<u64>,
+}
+
+const NOBODY: u32 = 1000;
+
+fn next(seed: u64) -> u64 {
+    let seed = seed ^ (seed << 13);
+    let seed = seed ^ (seed >> 7);
+    seed ^ (seed << 17)
+}
+
+// The range of a segment that has the least marked offset from `first` to `last`.
+fn clash_of(marks: &Marks, first: u64, last: u64) -> Option<u32> {
+    for offset in 1..OFFSETS + 1 {
+        let at = offset as u64;
+        if first <= at && at <= last && marks.holder[offset] != NOBODY {
+            return Some(marks.holder[offset]);
+        }
+    }
+    None
+}
+
+fn mark(marks: &mut Marks, segment: u32, first: u64, last: u64) {
+    for offset in 1..OFFSETS + 1 {
+        let at = offset as u64;
+        if first <= at && at <= last {
+            marks.holder[offset] = segment;
+        }
+    }
+}
+
+fn unmark(marks: &mut Marks, segment: u32) {
+    for offset in 1..OFFSETS + 1 {
+        if marks.holder[offset] == segment {
+            marks.holder[offset] = NOBODY;
+        }
+    }
+}
+
+fn mark_accepted(marks: &mut Marks, segment: u32) {
+    for offset in 1..OFFSETS + 1 {
+        if marks.holder[offset] == segment {
+            marks.accepted[offset] = true;
+        }
+    }
+}
+
+// The k-th run of offsets up to the size that aren't accepted.
+fn missing_of(marks: &Marks, k: usize) -> Option<(u64, u64)> {
+    let size = marks.size?;
+    let mut left = k;
+    let mut begin: Option<u64> = None;
+    for offset in 1..OFFSETS + 2 {
+        let at = offset as u64;
+        let bare = at <= size && !marks.accepted[offset];
+        match begin {
+            Some(first) => {
+                if !bare {
+                    if left == 0 {
+                        return Some((first, at - 1));
+                    }
+                    left -= 1;
+                    begin = None;
+                }
+            }
+            None => {
+                if bare {
+                    begin = Some(at);
+                }
+            }
+        }
+    }
+    None
+}
+
+// The segment with the k-th run of accepted offsets.
+fn accepted_of(marks: &Marks, k: usize) -> Option<u32> {
+    let mut left = k;
+    for offset in 1..OFFSETS + 1 {
+        if marks.accepted[offset] && marks.holder[offset] != marks.holder[offset - 1] {
+            if left == 0 {
+                return Some(marks.holder[offset]);
+            }
+            left -= 1;
+        }
+    }
+    None
+}
+
+fn other_of(answer: Option<Result<(), Clash>>) -> Option<u32> {
+    match answer {
+        Some(Err(clash)) => Some(clash.other),
+        _ => None,
+    }
+}
+
+// One call, and whether its answer is that of the marks.
+fn step(assembler: &mut Assembler, marks: &mut Marks, seed: u64) -> bool {
+    let segment = ((seed >> 8) % SEGMENTS as u64) as u32;
+    let first = 1 + (seed >> 20) % 64;
+    let last = first + (seed >> 30) % 6 - 1;
+    let last = if last > 64 { 64 } else { last };
+    match seed % 8 {
+        0 | 1 | 2 | 3 => {
+            let clash = clash_of(marks, first, last);
+            match claim(assembler, segment, first, last) {
+                Some(Ok(())) => {
+                    mark(marks, segment, first, last);
+                    clash.is_none()
+                }
+                Some(Err(found)) => Some(found.other) == clash,
+                None => true,
+            }
+        }
+        4 => {
+            if release(assembler, segment) {
+                unmark(marks, segment);
+            }
+            true
+        }
+        _ => step_accept(assembler, marks, segment, 62 + (seed >> 40) % 3),
+    }
+}
+
+fn step_accept(assembler: &mut Assembler, marks: &mut Marks, segment: u32, size: u64) -> bool {
+    match accept(assembler, segment, size) {
+        Some(Ok(())) => {
+            let fits = marks.size.is_none() || marks.size == Some(size);
+            marks.size = Some(size);
+            mark_accepted(marks, segment);
+            fits
+        }
+        Some(Err(OtherSize { kept })) => marks.size == Some(kept) && kept != size,
+        None => true,
+    }
+}
+
+// Whether what is shown of the file is what the marks have.
+fn shows(assembler: &Assembler, marks: &Marks) -> bool {
+    let complete = marks.size.is_some() && missing_of(marks, 0).is_none();
+    let mut good = assembler.size(0) == marks.size && assembler.complete(0) == complete;
+    for k in 0..40usize {
+        good = good && assembler.missing(0, k) == missing_of(marks, k);
+    }
+    good
+}
+
+#[test]
+fn calls_at_random_agree_with_marks(rt: HostRuntime) -> Result<(), Fail> {
+    let mut seed: u64 = 88172645463325252;
+    for round in 0..500u32 {
+        let mut assembler = Assembler::new(rt.alloc(), &[SEGMENTS as u32])?;
+        let mut marks = Marks {
+            holder: [NOBODY; 66],
+            accepted: [false; 66],
+            size: None,
+        };
+        for call in 0..60u32 {
+            seed = next(seed);
+            assert!(rt;
+                step(&mut assembler, &mut marks, seed),
+                "round {round}, call {call}"
+            );
+            assert!(rt;
+                shows(&assembler, &marks),
+                "round {round}, after call {call}"
+            );
+        }
+        for k in 0..SEGMENTS {
+            assert_eq!(rt; assembler.accepted(0, k), accepted_of(&marks, k));
+        }
+    }
+    Ok(())
+}

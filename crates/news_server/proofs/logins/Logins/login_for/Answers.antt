@@ -1,6 +1,0 @@
-use Rattle.std.proofs.Common.{◌∙◌}
-use Rattle.news_server.proofs.LoginLaws.{finds_in}
-use Rattle.news_server.proofs.logins.Logins.login_for.Goals as goal
-
-pub returns : goal.returns
-returns c = finds_in c.args.self.now _ c.args.server.now _ (c.as_slice.ensures ∙ c.self.view_is) c.find.ensures

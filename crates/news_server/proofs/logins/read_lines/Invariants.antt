@@ -1,6 +1,0 @@
-use Rattle.std.proofs.Common.{take}
-use Rattle.news_server.specs.Logins.{AreLogins}
-use Rattle.news_server.proofs.logins.read_lines.Given as goal
-
-abbrev pub invariant-loop-at : goal.invariant-loop-at
-invariant-loop-at l = AreLogins (take l.at l.lines) l.logins
