@@ -1,6 +1,7 @@
 #!/bin/sh
 # What the built program tells a person below the exact line of a status, and that it can be turned off.
 check=outside/hints
+top=$PWD
 . outside/begin
 
 # told STATUS LINE PART WORD..: the status, the first line on standard error, and a part of what explains it
@@ -36,6 +37,11 @@ told 3 'usebin: input fault' 'none: ' encode --input none
 told 3 'usebin: input fault' 'none: ' check --nzb none
 told 5 'usebin: no link' '127.0.0.1:1: ' index --server 127.0.0.1:1 --group a --first 1 --last 1
 told 6 'usebin: line 3 column 1 NoEnd' 'the text ends before `=yend`: the article was cut short' decode --input cut
+# the README shows the last one
+"$program" decode --input cut >out 2>err
+while IFS= read -r line; do
+    grep -qxF -- "    $line" "$top/README.md" || complain "README.md doesn't show: $line"
+done <err
 told 6 'usebin: line 3 column 1 CrcDiffers dbf43926 cbf43926' 'the article was damaged on its way' decode --input differs
 told 6 'usebin: reply NoReply' 'a status line' decode --form wire --input body
 told 6 'usebin: place 11 WrongTag' 'an NZB has no such element there' check --nzb nzb

@@ -1,128 +1,143 @@
 // Links in memory that follow a script.
-ghost use Rattle.std.specs.Prelude.{◌≡◌, ◌<◌, length, slice_get, Some, true, IfOk, OnOk};
-ghost use Rattle.io_memory.specs.ScriptLinks.{links_live};
+ghost use Rattle.std.specs.Prelude.{◌≡◌, slice_get, Some, true};
 
-use crate::fixtures::bytes_of;
+use crate::fixtures::{ends, hears, opened, refused, says};
 use io_memory::{ScriptLinks, Turn};
 use io_traits::{Got, LinkEvent, Links};
-use lists::List;
+use lists::{Bytes, List, Memory};
 use std::alloc::Global;
-use std::test::Fail;
+use std::process::Abort;
 
-// Links of which the first follows this script and the second an empty one.
-fn links_of(alloc: Global, script: List<Turn>, failing: &[u64]) -> Result<ScriptLinks, Fail> {
+// A turn of a script, as a test writes it down.
+#[derive(Clone, Copy)]
+enum Step<'a> {
+    Give(&'a [u8]),
+    Quiet,
+    End,
+    Fail,
+}
+
+fn turn_of(alloc: Global, step: Step<'_>) -> Result<Turn, Memory> {
+    match step {
+        Step::Give(text) => {
+            let mut bytes = Bytes::new(alloc);
+            bytes.extend(text)?;
+            Ok(Turn::Give(bytes))
+        }
+        Step::Quiet => Ok(Turn::Quiet),
+        Step::End => Ok(Turn::End),
+        Step::Fail => Ok(Turn::Fail),
+    }
+}
+
+fn script_of(alloc: Global, steps: &[Step<'_>]) -> Result<List<Turn>, Memory> {
+    let mut script = List::new(alloc);
+    for step in steps {
+        script.push(turn_of(alloc, *step)?)?;
+    }
+    Ok(script)
+}
+
+fn numbers_of(alloc: Global, numbers: &[u64]) -> Result<List<u64>, Memory> {
+    let mut list = List::new(alloc);
+    for number in numbers {
+        list.push(*number)?;
+    }
+    Ok(list)
+}
+
+fn scripted(alloc: Global, steps: &[Step<'_>], failing: &[u64]) -> Result<ScriptLinks, Memory> {
     let mut scripts = List::new(alloc);
-    scripts.push(script)?;
+    scripts.push(script_of(alloc, steps)?)?;
     scripts.push(List::new(alloc))?;
-    let mut chosen = List::new(alloc);
-    for number in failing {
-        chosen.push(*number)?;
-    }
-    Ok(ScriptLinks::new(alloc, scripts, chosen)?)
+    ScriptLinks::new(alloc, scripts, numbers_of(alloc, failing)?)
 }
 
-// Opens a link, which is live.
-fn open(links: &mut ScriptLinks) -> Result<u32, Fail>
-    ensures { IfOk result (λ link. slice_get (links_live links.new) link ≡ Some true) }
+// Links of which the first follows this script and the second an empty one. The calls of these numbers fail.
+fn links_of<R: Abort + AllocGlobal>(rt: &R, steps: &[Step<'_>], failing: &[u64]) -> ScriptLinks {
+    scripted(rt.alloc(), steps, failing).expect(rt, "links")
+}
+
+// Asserts that receives with this room get these pieces in turn.
+fn hears_all<L: Links + Drop, R: Abort>(
+    rt: &R,
+    mut links: L,
+    link: u32,
+    room: usize,
+    pieces: &[&[u8]],
+) -> L
+    requires { slice_get (L.live links) link ≡ Some true }
+    ensures { slice_get (L.live result) link ≡ Some true }
 {
-    Ok(links.open(b"host:119")?)
-}
-
-// How many bytes a receive gets, on a link that stays live: none where it is quiet.
-fn hear(links: &mut ScriptLinks, link: u32, buf: &mut [u8]) -> Result<usize, Fail>
-    requires live { slice_get (links_live links.old) link ≡ Some true }
-    requires room { 0 < length buf.old }
-    ensures { OnOk result (slice_get (links_live links.new) link ≡ Some true) }
-{
-    match links.receive(link, buf) {
-        Got::Bytes(n) => Ok(n),
-        Got::Quiet => Ok(0),
-        Got::Closed | Got::Failed => Err("the link goes on".into()),
+    for piece in pieces {
+        links = hears(rt, links, link, room, piece);
     }
+    links
 }
 
 #[test]
-fn a_link_follows_its_script(rt: HostRuntime) -> Result<(), Fail> {
-    let mut script = List::new(rt.alloc());
-    script.push(Turn::Give(bytes_of(rt.alloc(), b"200 hi\r\n")?))?;
-    script.push(Turn::Quiet)?;
-    script.push(Turn::Give(bytes_of(rt.alloc(), b"")?))?;
-    script.push(Turn::Give(bytes_of(rt.alloc(), b"x")?))?;
-    script.push(Turn::End)?;
-    let mut links = links_of(rt.alloc(), script, &[])?;
-    let link = open(&mut links)?;
-    let mut buf = [0; 5];
-    assert_eq!(rt; hear(&mut links, link, &mut buf)?, 5);
-    assert_eq!(rt; &buf, b"200 h");
-    assert_eq!(rt; hear(&mut links, link, &mut buf)?, 3);
-    assert_eq!(rt; &buf[..3], b"i\r\n".as_slice());
-    assert_eq!(rt; hear(&mut links, link, &mut buf)?, 0);
-    assert_eq!(rt; hear(&mut links, link, &mut buf)?, 1);
-    assert_eq!(rt; &buf[..1], b"x".as_slice());
-    assert_eq!(rt; links.receive(link, &mut buf), Got::Closed);
-    Ok(())
+fn a_link_follows_its_script(rt: HostRuntime) {
+    let steps = [
+        Step::Give(b"200 hi\r\n"),
+        Step::Quiet,
+        Step::Give(b""),
+        Step::Give(b"x"),
+        Step::End,
+    ];
+    let links = links_of(&rt, &steps, &[]);
+    let (links, link) = opened(&rt, links, b"host:119");
+    let links = hears_all(&rt, links, link, 5, &[b"200 h", b"i\r\n", b"", b"x"]);
+    ends(&rt, links, link, Got::Closed);
 }
 
 #[test]
-fn a_script_is_quiet_behind_its_last_turn(rt: HostRuntime) -> Result<(), Fail> {
-    let mut links = links_of(rt.alloc(), List::new(rt.alloc()), &[])?;
-    let link = open(&mut links)?;
-    let mut buf = [0; 5];
-    assert_eq!(rt; hear(&mut links, link, &mut buf)?, 0);
-    assert_eq!(rt; hear(&mut links, link, &mut buf)?, 0);
-    Ok(())
+fn a_script_is_quiet_behind_its_last_turn(rt: HostRuntime) {
+    let links = links_of(&rt, &[], &[]);
+    let (links, link) = opened(&rt, links, b"host:119");
+    hears_all(&rt, links, link, 5, &[b"", b""]);
 }
 
 #[test]
-fn each_opening_follows_the_next_script(rt: HostRuntime) -> Result<(), Fail> {
-    let mut script = List::new(rt.alloc());
-    script.push(Turn::Fail)?;
-    let mut links = links_of(rt.alloc(), script, &[])?;
-    let first = open(&mut links)?;
+fn each_opening_follows_the_next_script(rt: HostRuntime) {
+    let links = links_of(&rt, &[Step::Fail], &[]);
+    let (links, first) = opened(&rt, links, b"host:119");
     assert_eq!(rt; first, 0);
-    let second = open(&mut links)?;
+    let (links, second) = opened(&rt, links, b"host:119");
     assert_eq!(rt; second, 1);
-    assert!(rt; links.open(b"host:119").is_err());
-    Ok(())
+    refused(&rt, links, b"host:119");
 }
 
 #[test]
-fn a_receive_fails_at_its_turn(rt: HostRuntime) -> Result<(), Fail> {
-    let mut script = List::new(rt.alloc());
-    script.push(Turn::Fail)?;
-    let mut links = links_of(rt.alloc(), script, &[])?;
-    let link = open(&mut links)?;
-    assert_eq!(rt; links.receive(link, &mut [0; 5]), Got::Failed);
-    Ok(())
+fn a_receive_fails_at_its_turn(rt: HostRuntime) {
+    let links = links_of(&rt, &[Step::Fail], &[]);
+    let (links, link) = opened(&rt, links, b"host:119");
+    ends(&rt, links, link, Got::Failed);
+}
+
+// Asserts that a send of bytes, at least one, fails.
+fn fails<L: Links + Drop, R: Abort>(rt: &R, mut links: L, link: u32, bytes: &[u8])
+    requires { slice_get (L.live links) link ≡ Some true }
+{
+    assert!(rt; !bytes.is_empty());
+    assert!(rt; links.send(link, bytes).is_err());
 }
 
 #[test]
-fn chosen_calls_on_links_fail(rt: HostRuntime) -> Result<(), Fail> {
-    let mut links = links_of(rt.alloc(), List::new(rt.alloc()), &[1, 3])?;
-    assert!(rt; links.open(b"host:119").is_err());
-    let link = open(&mut links)?;
+fn chosen_calls_on_links_fail(rt: HostRuntime) {
+    let links = links_of(&rt, &[], &[1, 3]);
+    let links = refused(&rt, links, b"host:119");
+    let (links, link) = opened(&rt, links, b"host:119");
     assert_eq!(rt; link, 0);
-    assert!(rt; links.send(link, b"QUIT\r\n").is_err());
-    Ok(())
+    fails(&rt, links, link, b"QUIT\r\n");
 }
 
 #[test]
-fn links_tell_what_happened(rt: HostRuntime) -> Result<(), Fail> {
-    let mut script = List::new(rt.alloc());
-    script.push(Turn::Give(bytes_of(rt.alloc(), b"hello")?))?;
-    script.push(Turn::Quiet)?;
-    script.push(Turn::End)?;
-    let mut links = links_of(rt.alloc(), script, &[])?;
-    let link = open(&mut links)?;
-    match links.send(link, b"QUIT\r\n") {
-        Ok(n) => assert_eq!(rt; n, 6),
-        Err(_) => return Err("the link goes on".into()),
-    }
-    let mut buf = [0; 3];
-    assert_eq!(rt; hear(&mut links, link, &mut buf)?, 3);
-    assert_eq!(rt; hear(&mut links, link, &mut buf)?, 2);
-    assert_eq!(rt; hear(&mut links, link, &mut buf)?, 0);
-    assert_eq!(rt; links.receive(link, &mut buf), Got::Closed);
+fn links_tell_what_happened(rt: HostRuntime) {
+    let links = links_of(&rt, &[Step::Give(b"hello"), Step::Quiet, Step::End], &[]);
+    let (links, link) = opened(&rt, links, b"host:119");
+    let links = says(&rt, links, link, b"QUIT\r\n");
+    let links = hears_all(&rt, links, link, 3, &[b"hel", b"lo", b""]);
+    let links = ends(&rt, links, link, Got::Closed);
     let wanted: [(u8, &[u8]); 6] = [
         (b'O', b"host:119"),
         (b'S', b"QUIT\r\n"),
@@ -131,11 +146,16 @@ fn links_tell_what_happened(rt: HostRuntime) -> Result<(), Fail> {
         (b'Q', b""),
         (b'E', b""),
     ];
-    assert_eq!(rt; links.events().len(), 6);
-    for (event, row) in links.events().iter().zip(wanted) {
-        assert_eq!(rt; told(event), row);
+    happened(&rt, links, &wanted);
+}
+
+// Asserts that this is all that happened, by the kinds' first letters and the bytes.
+fn happened<R: Abort>(rt: &R, links: ScriptLinks, wanted: &[(u8, &[u8])]) {
+    let events = links.events();
+    assert_eq!(rt; events.len(), wanted.len());
+    for (event, row) in events.iter().zip(wanted) {
+        assert!(rt; told(event) == *row);
     }
-    Ok(())
 }
 
 // The kind of an event, by its first letter, and its bytes.

@@ -1,32 +1,53 @@
 // The real objects: they are proved against the traits, and what the system does with them is tried here.
+ghost use Rattle.std.specs.Prelude.{◌≡◌, Some};
+
 use crate::fixtures::filled;
 use io_system::{ErrSink, FileInput, OutSink};
 use io_traits::{Input, Sink};
 use std::fmt::Display;
 use std::io::{ErrorKind, Read, Write};
+use std::net::Net;
 use std::os::fd::{AsRawFd, RawFd};
 use std::os::unix::net::UnixStream;
-use std::test::Fail;
+use std::process::Abort;
 use std::{fs, io};
 
-#[test]
-fn files_are_opened_and_read(rt: HostRuntime) -> Result<(), Fail> {
-    fs::write(&rt, "some file", b"123456789")?;
-    let mut input = FileInput::new(&rt);
-    assert!(rt; input.open("none").is_err());
-    assert!(rt; input.reason().is_some());
-    assert!(rt; input.open(".").is_err());
+// Asserts that there is no such file.
+fn lacks<I: Input + Drop, R: Abort>(rt: &R, mut input: I, name: &str) -> I {
+    assert!(rt; input.open(name).is_err());
+    input
+}
+
+// Asserts that a file has this size.
+fn opens<I: Input + Drop, R: Abort>(rt: &R, mut input: I, name: &str, size: u64) -> I
+    ensures { I.current result ≡ Some size }
+{
+    let len = input.open(name).expect(rt, "a file");
+    assert_eq!(rt; len, size);
+    input
+}
+
+// Asserts that a read of 4 bytes at a place of the current file, which has this size, gets these.
+fn reads<I: Input + Drop, R: Abort>(rt: &R, mut input: I, size: u64, place: u64, wanted: &[u8]) -> I
+    requires { I.current input ≡ Some size }
+    ensures { I.current result ≡ Some size }
+{
+    assert!(rt; place < size);
     let mut piece = [0; 4];
-    match input.open("some file") {
-        Ok(9) => {
-            assert_eq!(rt; input.read_at(7, &mut piece)?, 2);
-            assert_eq!(rt; &piece[..2], b"89".as_slice());
-            assert_eq!(rt; input.read_at(0, &mut piece)?, 4);
-            assert_eq!(rt; &piece, b"1234");
-        }
-        _ => return Err("the file has nine bytes".into()),
-    }
-    Ok(())
+    let n = input.read_at(place, &mut piece).expect(rt, "a read");
+    assert!(rt; n == wanted.len() && piece.starts_with(wanted));
+    input
+}
+
+#[test]
+fn files_are_opened_and_read(rt: HostRuntime) {
+    fs::write(&rt, "some file", b"123456789").expect(&rt, "a file");
+    let input = lacks(&rt, FileInput::new(&rt), "none");
+    assert!(rt; input.reason().is_some());
+    let input = lacks(&rt, input, ".");
+    let input = opens(&rt, input, "some file", 9);
+    let input = reads(&rt, input, 9, 7, b"89");
+    reads(&rt, input, 9, 0, b"1234");
 }
 
 // How many bytes a long file has: more than two buffers.
@@ -42,39 +63,33 @@ fn put_at(content: &mut [u8], place: usize, bytes: &[u8]) {
 }
 
 #[test]
-fn a_file_is_read_at_far_places(rt: HostRuntime) -> Result<(), Fail> {
-    let mut content = filled(rt.alloc(), b'.', LONG)?;
+fn a_file_is_read_at_far_places(rt: HostRuntime) {
+    let mut content = filled(&rt, b'.', LONG);
     put_at(&mut content, 70_000, b"near");
     put_at(&mut content, 150_000, b"far!");
-    fs::write(&rt, "long file", content.as_slice())?;
-    let mut input = FileInput::new(&rt);
-    let mut piece = [0; 4];
-    match input.open("long file") {
-        Ok(200_000) => {
-            assert_eq!(rt; input.read_at(150_000, &mut piece)?, 4);
-            assert_eq!(rt; &piece, b"far!");
-            assert_eq!(rt; input.read_at(70_000, &mut piece)?, 4);
-            assert_eq!(rt; &piece, b"near");
-            assert_eq!(rt; input.read_at(199_999, &mut piece)?, 1);
-        }
-        _ => return Err("the file has 200,000 bytes".into()),
-    }
-    Ok(())
+    fs::write(&rt, "long file", content.as_slice()).expect(&rt, "a file");
+    let input = opens(&rt, FileInput::new(&rt), "long file", 200_000);
+    let input = reads(&rt, input, 200_000, 150_000, b"far!");
+    let input = reads(&rt, input, 200_000, 70_000, b"near");
+    reads(&rt, input, 200_000, 199_999, b".");
+}
+
+// Asserts that a sink takes so many of these bytes.
+fn takes<S: Sink + Drop, R: Abort>(rt: &R, mut sink: S, bytes: &[u8], count: usize) -> S {
+    let n = sink.write(bytes).expect(rt, "a write");
+    assert_eq!(rt; n, count);
+    sink
 }
 
 #[test]
-fn standard_output_takes_bytes(rt: HostRuntime) -> Result<(), Fail> {
-    let mut out = OutSink::new(rt.stdout());
-    assert_eq!(rt; out.write(b"out\n")?, 4);
-    assert_eq!(rt; out.write(b"")?, 0);
-    Ok(())
+fn standard_output_takes_bytes(rt: HostRuntime) {
+    let out = takes(&rt, OutSink::new(rt.stdout()), b"out\n", 4);
+    takes(&rt, out, b"", 0);
 }
 
 #[test]
-fn standard_error_takes_bytes(rt: HostRuntime) -> Result<(), Fail> {
-    let mut err = ErrSink::new(rt.stderr());
-    assert_eq!(rt; err.write(b"err\n")?, 4);
-    Ok(())
+fn standard_error_takes_bytes(rt: HostRuntime) {
+    takes(&rt, ErrSink::new(rt.stderr()), b"err\n", 4);
 }
 
 // A stream that takes no byte.
@@ -144,10 +159,11 @@ impl Print for SocketStream {
 }
 
 // How many bytes come until none does any more.
-fn count_all(socket: &mut UnixStream, buf: &mut [u8]) -> usize {
+fn count_all(mut socket: UnixStream) -> usize {
+    let mut buf = [0; 2048];
     let mut count: usize = 0;
     for _ in 0..1_000_000 {
-        match socket.read(buf) {
+        match socket.read(&mut buf) {
             Ok(n) if n > 0 => count = count.saturating_add(n),
             _ => return count,
         }
@@ -155,17 +171,21 @@ fn count_all(socket: &mut UnixStream, buf: &mut [u8]) -> usize {
     count
 }
 
+// Two ends of a connection that don't wait.
+fn pair_of<R: Abort + Net>(rt: &R) -> (UnixStream, UnixStream) {
+    let (socket, reader) = UnixStream::pair(rt).expect(rt, "a pair");
+    socket.set_nonblocking(true).expect(rt, "a socket");
+    reader.set_nonblocking(true).expect(rt, "a reader");
+    (socket, reader)
+}
+
 #[test]
-fn a_write_of_a_part_is_told_as_that(rt: HostRuntime) -> Result<(), Fail> {
-    let (socket, mut reader) = UnixStream::pair(&rt)?;
-    socket.set_nonblocking(true)?;
-    reader.set_nonblocking(true)?;
+fn a_write_of_a_part_is_told_as_that(rt: HostRuntime) {
+    let (socket, reader) = pair_of(&rt);
     let mut out = OutSink::new(SocketStream { socket });
-    let many = filled(rt.alloc(), b'x', 8_000_000)?;
-    let mut buf = [0; 2048];
-    let written = out.write(many.as_slice())?;
+    let many = filled(&rt, b'x', 8_000_000);
+    let written = out.write(many.as_slice()).expect(&rt, "a write");
     assert!(rt; written > 0);
     assert!(rt; written < 8_000_000, "the socket takes a part");
-    assert_eq!(rt; count_all(&mut reader, &mut buf), written);
-    Ok(())
+    assert_eq!(rt; count_all(reader), written);
 }

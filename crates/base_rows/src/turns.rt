@@ -1,23 +1,24 @@
 // Which of the links over TCP that wait is heard next, and addresses that don't answer.
-ghost use Rattle.std.specs.Prelude.{◌≡◌, ◌<◌, length, slice_get, Some, true, IfOk, OnOk};
+ghost use Rattle.std.specs.Prelude.{◌≡◌, slice_get, Some, true};
 
+use crate::fixtures::{door_of, ends, hears, opened, peer_of, refused, shut};
 use io_system::TcpLinks;
 use io_traits::{Got, Links};
 use std::cell::Cell;
 use std::io;
-use std::io::ErrorKind;
+use std::io::{ErrorKind, Write};
 use std::net::{Net, SocketAddr, TcpListener, TcpStream};
-use std::test::Fail;
+use std::process::Abort;
 use std::time::{Clock, Duration, Instant};
 
 // Opens two links, which are live.
-fn open_two<L: Links>(links: &mut L, address: &[u8]) -> Result<(u32, u32), Fail>
-    ensures first { IfOk result (λ pair. slice_get (L.live links.new) pair.0 ≡ Some true) }
-    ensures second { IfOk result (λ pair. slice_get (L.live links.new) pair.1 ≡ Some true) }
+fn opened_two<L: Links + Drop, R: Abort>(rt: &R, mut links: L, address: &[u8]) -> (L, u32, u32)
+    ensures first { slice_get (L.live result.0) result.1 ≡ Some true }
+    ensures second { slice_get (L.live result.0) result.2 ≡ Some true }
 {
-    let first = links.open(address)?;
-    let second = links.open(address)?;
-    Ok((first, second))
+    let first = links.open(address).expect(rt, "a link");
+    let second = links.open(address).expect(rt, "a link");
+    (links, first, second)
 }
 
 // Which of two links is heard next, by its number.
@@ -35,41 +36,68 @@ fn next_of<L: Links>(links: &mut L, first: u32, second: u32) -> u32
     }
 }
 
-// The quiet receives on two links, in the order in which they are answered: how many, and how many were on the first.
-fn quiet_turns<L: Links>(links: &mut L, first: u32, second: u32, count: u32) -> (u32, u32)
-    requires first { slice_get (L.live links.old) first ≡ Some true }
-    requires second { slice_get (L.live links.old) second ≡ Some true }
+// Asserts that the second link is heard next.
+fn is_second<L: Links + Drop, R: Abort>(rt: &R, mut links: L, first: u32, second: u32) -> L
+    requires first { slice_get (L.live links) first ≡ Some true }
+    requires second { slice_get (L.live links) second ≡ Some true }
+    ensures first { slice_get (L.live result) first ≡ Some true }
+    ensures second { slice_get (L.live result) second ≡ Some true }
 {
-    let mut quiet: u32 = 0;
+    assert_eq!(rt; next_of(&mut links, first, second), second);
+    links
+}
+
+// Asserts that so many receives on two links, each on the one that is next, are quiet. How many were on the first?
+fn quiet_turns<L: Links + Drop, R: Abort>(
+    rt: &R,
+    mut links: L,
+    first: u32,
+    second: u32,
+    count: u32,
+) -> (L, u32)
+    requires first { slice_get (L.live links) first ≡ Some true }
+    requires second { slice_get (L.live links) second ≡ Some true }
+    ensures first { slice_get (L.live result.0) first ≡ Some true }
+    ensures second { slice_get (L.live result.0) second ≡ Some true }
+{
     let mut of_first: u32 = 0;
     for _turn in 0..count {
-        let link = next_of(links, first, second);
-        match links.receive(link, &mut [0; 8]) {
-            Got::Quiet => {}
-            Got::Bytes(_) | Got::Closed | Got::Failed => break,
-        }
-        quiet = quiet.saturating_add(1);
+        let link = next_of(&mut links, first, second);
+        links = hears(rt, links, link, 8, b"");
         of_first = of_first.saturating_add(if link == first { 1 } else { 0 });
     }
-    (quiet, of_first)
+    (links, of_first)
 }
 
 #[test]
-fn quiet_receives_are_twenty_milliseconds_apart(rt: HostRuntime) -> Result<(), Fail> {
-    let listener = TcpListener::bind(&rt, "127.0.0.1:0")?;
-    let here = listener.local_addr()?;
-    let address = format!(in rt.alloc(); "{here}")?;
-    let mut links = TcpLinks::new(rt.alloc(), &rt);
-    let (first, second) = open_two(&mut links, address.as_bytes())?;
-    let (_first_peer, _) = listener.accept()?;
-    let (_second_peer, _) = listener.accept()?;
-    let begun = Instant::now(&rt)?;
-    let (quiet, of_first) = quiet_turns(&mut links, first, second, 20);
-    let passed = begun.elapsed(&rt)?;
-    assert_eq!(rt; quiet, 20);
+fn the_link_that_has_bytes_is_heard_next(rt: HostRuntime) {
+    let door = door_of(&rt);
+    let links = TcpLinks::new(rt.alloc(), &rt);
+    let (links, first, second) = opened_two(&rt, links, door.address.as_bytes());
+    let _first_peer = peer_of(&rt, &door);
+    let mut second_peer = peer_of(&rt, &door);
+    let (links, of_first) = quiet_turns(&rt, links, first, second, 4);
+    assert_eq!(rt; of_first, 2, "they are answered in turn");
+    second_peer.write_all(b"200 hi\r\n").expect(&rt, "a peer");
+    let links = is_second(&rt, links, first, second);
+    let links = hears(&rt, links, second, 8, b"200 hi\r\n");
+    drop(second_peer);
+    let links = is_second(&rt, links, first, second);
+    ends(&rt, links, second, Got::Closed);
+}
+
+#[test]
+fn quiet_receives_are_twenty_milliseconds_apart(rt: HostRuntime) {
+    let door = door_of(&rt);
+    let links = TcpLinks::new(rt.alloc(), &rt);
+    let (links, first, second) = opened_two(&rt, links, door.address.as_bytes());
+    let _first_peer = peer_of(&rt, &door);
+    let _second_peer = peer_of(&rt, &door);
+    let begun = Instant::now(&rt).expect(&rt, "a clock");
+    let (_links, of_first) = quiet_turns(&rt, links, first, second, 20);
+    let passed = begun.elapsed(&rt).expect(&rt, "a clock");
     // Ten on each link take 200 milliseconds, and those of both pass together.
     assert!(rt; of_first <= 10 && passed >= Duration::from_millis(180));
-    Ok(())
 }
 
 // A network on which no address answers, that counts the openings.
@@ -112,28 +140,23 @@ impl Clock for &SilentNet {
 }
 
 #[test]
-fn an_address_that_does_not_answer_is_not_tried_again(rt: HostRuntime) -> Result<(), Fail> {
+fn an_address_that_does_not_answer_is_not_tried_again(rt: HostRuntime) {
     let net = SilentNet {
         tries: Cell::new(0),
     };
-    let mut links = TcpLinks::new(rt.alloc(), &net);
-    assert!(rt; links.open(b"127.0.0.1:119").is_err());
-    assert!(rt; links.open(b"127.0.0.1:119").is_err());
+    let links = TcpLinks::new(rt.alloc(), &net);
+    let links = refused(&rt, links, b"127.0.0.1:119");
+    let links = refused(&rt, links, b"127.0.0.1:119");
     assert_eq!(rt; net.tries.get(), 1);
-    assert!(rt; links.open(b"127.0.0.1:120").is_err());
+    refused(&rt, links, b"127.0.0.1:120");
     assert_eq!(rt; net.tries.get(), 2);
-    Ok(())
 }
 
 #[test]
-fn an_address_that_refused_is_tried_again(rt: HostRuntime) -> Result<(), Fail> {
-    let listener = TcpListener::bind(&rt, "127.0.0.1:0")?;
-    let here = listener.local_addr()?;
-    let address = format!(in rt.alloc(); "{here}")?;
-    drop(listener);
-    let mut links = TcpLinks::new(rt.alloc(), &rt);
-    assert!(rt; links.open(address.as_bytes()).is_err());
-    let _listener = TcpListener::bind(&rt, address.as_str())?;
-    assert!(rt; links.open(address.as_bytes()).is_ok());
-    Ok(())
+fn an_address_that_refused_is_tried_again(rt: HostRuntime) {
+    let address = shut(door_of(&rt));
+    let links = TcpLinks::new(rt.alloc(), &rt);
+    let links = refused(&rt, links, address.as_bytes());
+    let _listener = TcpListener::bind(&rt, address.as_str()).expect(&rt, "a listener");
+    opened(&rt, links, address.as_bytes());
 }

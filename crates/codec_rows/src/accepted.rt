@@ -1,6 +1,6 @@
 // Blocks that are bodies.
 use crate::block_fixtures::{Reply, by_bytes, in_two};
-use fused_decoder::{Ending, Fused, decode_pieces};
+use fused_decoder::{Ending, Event, Fused, decode_pieces};
 use lists::Bytes;
 use std::mem::size_of;
 use std::test::Fail;
@@ -58,6 +58,23 @@ fn tells_the_greatest_range(rt: HostRuntime) -> Result<(), Fail> {
     assert!(rt; decoded.range == Some((1_099_511_627_776, 1_099_511_627_768, 1_099_511_627_776)));
     assert!(rt; decoded.ending == Some(ACCEPTED));
     assert_eq!(rt; decoded.out.as_slice(), b"123456789".as_slice());
+    Ok(())
+}
+
+#[test]
+fn tells_the_range_from_its_line_on(rt: HostRuntime) -> Result<(), Fail> {
+    let block = FAR;
+    let mut fused = Fused::start();
+    let mut fixed = None;
+    for at in 0..block.len() {
+        assert!(rt; fused.range() == fixed);
+        let mut byte = [block[at]];
+        if let Event::Range { first, last, .. } = fused.step(&mut byte).event {
+            fixed = Some((first, last));
+            fused.go_on();
+        }
+    }
+    assert!(rt; fused.range() == Some((1_099_511_627_768, 1_099_511_627_776)));
     Ok(())
 }
 

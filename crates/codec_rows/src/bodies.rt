@@ -1,6 +1,6 @@
 // Bodies of parts, and the lines of a saved text.
-use crate::fixtures::are_lines;
 use lists::Lines;
+use row_fixtures::are_lines;
 use std::test::Fail;
 use yenc_body::{BodySpec, split_text, write_body};
 use yenc_lines::Name;

@@ -11,8 +11,6 @@ mod bodies;
 #[cfg(test)]
 mod decoding;
 #[cfg(test)]
-mod fixtures;
-#[cfg(test)]
 mod landings;
 #[cfg(test)]
 mod reading;

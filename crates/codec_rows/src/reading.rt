@@ -1,6 +1,6 @@
 // Bodies, read.
-use crate::fixtures::bytes_of;
 use lists::Lines;
+use row_fixtures::bytes_of;
 use std::alloc::Global;
 use std::test::Fail;
 use yenc_body::{BodyError, Fault, Part, Reason, read_body, split_text};
@@ -20,115 +20,117 @@ fn at(line: u64, column: u64, reason: Reason) -> Option<BodyError> {
     }))
 }
 
+// Texts that are refused, with the line, the column and the reason.
+const REFUSED: [(&[u8], u64, u64, Reason); 19] = [
+    (b"", 1, 1, Reason::NoBegin),
+    (b"From: x\n\n", 3, 1, Reason::NoBegin),
+    (
+        b"=ybegin line=128 size=9\n[\\]^_`abc\n=yend size=9 crc32=cbf43926\n",
+        1,
+        1,
+        Reason::BadBegin(KeyFault::NoItem(Key::Name)),
+    ),
+    (
+        b"=ybegin line=128 size=16777217 name=d\n",
+        1,
+        1,
+        Reason::PartRange,
+    ),
+    (
+        b"=ybegin part=1 total=2 line=128 size=9 name=d\n=ypart begin=1 end=10\n",
+        2,
+        1,
+        Reason::PartRange,
+    ),
+    (
+        b"=ybegin part=1 total=2 line=128 size=9 name=d\nabc\n",
+        2,
+        1,
+        Reason::NoPart,
+    ),
+    (
+        b"=ybegin part=1 total=2 line=128 size=9 name=d\n",
+        2,
+        1,
+        Reason::NoPart,
+    ),
+    (
+        b"=ybegin part=1 total=2 line=128 size=9 name=d\n=ypart begin=0 end=9\n",
+        2,
+        1,
+        Reason::BadPart(KeyFault::BadNumber(Key::Begin)),
+    ),
+    (
+        b"=ybegin line=128 size=2 name=d\na=\ra\n=yend size=2\n",
+        2,
+        3,
+        Reason::Stray,
+    ),
+    (
+        b"=ybegin line=128 size=2 name=d\nab\n\0\n=yend size=2\n",
+        3,
+        1,
+        Reason::Stray,
+    ),
+    (
+        b"=ybegin line=128 size=2 name=d\na=\n=yend size=2\n",
+        2,
+        2,
+        Reason::LoneEscape,
+    ),
+    (
+        b"=ybegin line=128 size=8 name=d\n[\\]^_`abc\n=yend size=8\n",
+        2,
+        9,
+        Reason::TooMany,
+    ),
+    (
+        b"=ybegin line=128 size=8 name=d\n[\n=yfoo\n",
+        3,
+        1,
+        Reason::Keyword,
+    ),
+    (
+        b"=ybegin line=128 size=9 name=d\n[\\]^_`abc\n",
+        3,
+        1,
+        Reason::NoEnd,
+    ),
+    (
+        b"=ybegin line=128 size=9 name=d\n[\\]^_`abc\n=yend crc32=cbf43926\n",
+        3,
+        1,
+        Reason::BadEnd(KeyFault::NoItem(Key::Size)),
+    ),
+    (
+        b"=ybegin part=1 total=1 line=128 size=9 name=d\n=ypart begin=1 end=9\n[\\]^_`abc\n=yend size=9 part=2\n",
+        4,
+        1,
+        Reason::EndPart(2, 1),
+    ),
+    (
+        b"=ybegin line=128 size=9 name=d\n[\\]^_`abc\n=yend size=8\n",
+        3,
+        1,
+        Reason::EndSize(8, 9),
+    ),
+    (
+        b"=ybegin line=128 size=10 name=d\n[\\]^_`abc\n=yend size=10\n",
+        3,
+        1,
+        Reason::TooFew(9, 10),
+    ),
+    (
+        b"=ybegin line=128 size=9 name=d\n[\\]^_`abc\n=yend size=9 crc32=1\n",
+        3,
+        1,
+        Reason::CrcDiffers(1, 0xcbf4_3926),
+    ),
+];
+
 #[test]
 fn each_reason_has_its_line_and_column(rt: HostRuntime) -> Result<(), Fail> {
-    let rows: [(&[u8], u64, u64, Reason); 19] = [
-        (b"", 1, 1, Reason::NoBegin),
-        (b"From: x\n\n", 3, 1, Reason::NoBegin),
-        (
-            b"=ybegin line=128 size=9\n[\\]^_`abc\n=yend size=9 crc32=cbf43926\n",
-            1,
-            1,
-            Reason::BadBegin(KeyFault::NoItem(Key::Name)),
-        ),
-        (
-            b"=ybegin line=128 size=16777217 name=d\n",
-            1,
-            1,
-            Reason::PartRange,
-        ),
-        (
-            b"=ybegin part=1 total=2 line=128 size=9 name=d\n=ypart begin=1 end=10\n",
-            2,
-            1,
-            Reason::PartRange,
-        ),
-        (
-            b"=ybegin part=1 total=2 line=128 size=9 name=d\nabc\n",
-            2,
-            1,
-            Reason::NoPart,
-        ),
-        (
-            b"=ybegin part=1 total=2 line=128 size=9 name=d\n",
-            2,
-            1,
-            Reason::NoPart,
-        ),
-        (
-            b"=ybegin part=1 total=2 line=128 size=9 name=d\n=ypart begin=0 end=9\n",
-            2,
-            1,
-            Reason::BadPart(KeyFault::BadNumber(Key::Begin)),
-        ),
-        (
-            b"=ybegin line=128 size=2 name=d\na=\ra\n=yend size=2\n",
-            2,
-            3,
-            Reason::Stray,
-        ),
-        (
-            b"=ybegin line=128 size=2 name=d\nab\n\0\n=yend size=2\n",
-            3,
-            1,
-            Reason::Stray,
-        ),
-        (
-            b"=ybegin line=128 size=2 name=d\na=\n=yend size=2\n",
-            2,
-            2,
-            Reason::LoneEscape,
-        ),
-        (
-            b"=ybegin line=128 size=8 name=d\n[\\]^_`abc\n=yend size=8\n",
-            2,
-            9,
-            Reason::TooMany,
-        ),
-        (
-            b"=ybegin line=128 size=8 name=d\n[\n=yfoo\n",
-            3,
-            1,
-            Reason::Keyword,
-        ),
-        (
-            b"=ybegin line=128 size=9 name=d\n[\\]^_`abc\n",
-            3,
-            1,
-            Reason::NoEnd,
-        ),
-        (
-            b"=ybegin line=128 size=9 name=d\n[\\]^_`abc\n=yend crc32=cbf43926\n",
-            3,
-            1,
-            Reason::BadEnd(KeyFault::NoItem(Key::Size)),
-        ),
-        (
-            b"=ybegin part=1 total=1 line=128 size=9 name=d\n=ypart begin=1 end=9\n[\\]^_`abc\n=yend size=9 part=2\n",
-            4,
-            1,
-            Reason::EndPart(2, 1),
-        ),
-        (
-            b"=ybegin line=128 size=9 name=d\n[\\]^_`abc\n=yend size=8\n",
-            3,
-            1,
-            Reason::EndSize(8, 9),
-        ),
-        (
-            b"=ybegin line=128 size=10 name=d\n[\\]^_`abc\n=yend size=10\n",
-            3,
-            1,
-            Reason::TooFew(9, 10),
-        ),
-        (
-            b"=ybegin line=128 size=9 name=d\n[\\]^_`abc\n=yend size=9 crc32=1\n",
-            3,
-            1,
-            Reason::CrcDiffers(1, 0xcbf4_3926),
-        ),
-    ];
-    for (text, line, column, reason) in rows {
+    for (text, line, column, reason) in REFUSED {
         assert_eq!(rt; refusal(rt.alloc(), text)?, at(line, column, reason));
     }
     Ok(())

@@ -3,7 +3,7 @@ use Rattle.std.proofs.Common.{◌≡◌, ◌≢◌, ℕ, ◌+◌, ◌-◌, Ok, E
 use Rattle.std.specs.List.{AllByRecursion}
 use Rattle.std.proofs.lemmas.List.{append-nil, take-append-drop}
 use Rattle.dot_blocks.specs.declared.split.BlockError.TheVariants.{Rest}
-use Rattle.dot_blocks.specs.Blocks.{HoldsNoLineEnd, IsWireForm, AreWireLines, IsBlock, BeginsNoBlock, IsRefusedFor, Splits}
+use Rattle.dot_blocks.specs.Blocks.{HoldsNoLineEnd, IsWireForm, AreWireLines, IsBlock, BeginsNoBlock, IsNoBlockFor, Splits}
 use Rattle.dot_blocks.specs.Heard.{IsHeard}
 use Rattle.dot_blocks.proofs.LineEnds.{no_end_in_none, no_end_behind_dot, first_end}
 
@@ -79,7 +79,7 @@ pub splits_whole : (bytes : List ℕ) (found lines : List (List ℕ)) (front res
 splits_whole bytes found lines front rest is block e =
     let same = blocks_once found lines bytes front [] rest is block (append-nil bytes ∙ e) in (same.0, sym same.1)
 
-pub splits_rest : (bytes : List ℕ) (used : ℕ) (lines : List (List ℕ)) (front rest : List ℕ) → IsRefusedFor bytes (Rest used) → IsBlock lines front → bytes ≡ front ++ rest → Splits lines front rest (Err (Rest used))
+pub splits_rest : (bytes : List ℕ) (used : ℕ) (lines : List (List ℕ)) (front rest : List ℕ) → IsNoBlockFor bytes (Rest used) → IsBlock lines front → bytes ≡ front ++ rest → Splits lines front rest (Err (Rest used))
 splits_rest bytes used lines front rest (less, (found, is)) block e =
     let same = blocks_once found lines (take used bytes) front (drop used bytes) rest is block (take-append-drop used bytes ∙ e) in
     let long : length (drop used bytes) ≡ length bytes - used = length-drop used bytes in

@@ -3,7 +3,7 @@ use Rattle.std.proofs.Common.{◌≡◌, ◌≢◌, ◌≤◌, ◌<◌, ℕ, zer
 use Rattle.std.proofs.lemmas.Bool.{cases_eq}
 use Rattle.std.proofs.lemmas.List.{append-nil, take_more, take_all, take-append-drop}
 use Rattle.dot_blocks.specs.Blocks.{HoldsNoLineEnd, BeginsWithDot, IsWireForm, AreWireLines, IsBlock}
-use Rattle.dot_blocks.specs.Heard.{IsHeard, EndsWithReturn, IsAt, IsEnded, StandsFor}
+use Rattle.dot_blocks.specs.Heard.{IsHeard, EndsWithReturn, IsAt, IsEnded, HasFramed}
 use Rattle.dot_blocks.specs.declared.place.Place.{Place}
 use Rattle.dot_blocks.specs.declared.place.Place.TheVariants.{Start, DotReturn, Return, Middle}
 use Rattle.dot_blocks.proofs.LineEnds.{no_end_in_none, no_end_in_rest, joined}
@@ -11,7 +11,7 @@ use Rattle.dot_blocks.proofs.LineEnds.{no_end_in_none, no_end_in_rest, joined}
 pub heard_none : IsHeard [] [] []
 heard_none = record { whole = []; are_lines = refl; goes_on = no_end_in_none; heard_is = refl }
 
-pub stands_before : StandsFor Start [] [] []
+pub stands_before : HasFramed Start [] [] []
 stands_before = record { is_heard = heard_none; is_at = refl }
 
 -- ---- more lines
@@ -61,7 +61,7 @@ heard_block heard lines begun piece h e = (h.whole, h.are_lines, heard_then hear
 
 -- a line that has ended, and isn't the dot alone
 pub ended_line : (heard : List ℕ) (lines : List (List ℕ)) (begun piece : List ℕ) → IsHeard heard lines begun → IsEnded (begun ++ piece) → begun ++ piece ≢ 46 ∷ 13 ∷ 10 ∷ [] →
-    (line wire : List ℕ) × IsWireForm line wire × (begun ++ piece ≡ wire ++ 13 ∷ 10 ∷ []) × StandsFor Start (heard ++ piece) (lines ++ line ∷ []) []
+    (line wire : List ℕ) × IsWireForm line wire × (begun ++ piece ≡ wire ++ 13 ∷ 10 ∷ []) × HasFramed Start (heard ++ piece) (lines ++ line ∷ []) []
 ended_line heard lines begun piece h (wire, none, e) n =
     let l = line_of wire none (λ d. n (e ∙ ap (λ (t : List ℕ). t ++ 13 ∷ 10 ∷ []) d)) in
     (l.0, wire, l.1, e, record { is_heard = heard_line heard lines begun piece l.0 wire h l.1 e; is_at = refl })

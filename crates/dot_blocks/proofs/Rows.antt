@@ -3,7 +3,7 @@ use Rattle.std.proofs.Common.{◌≡◌, ◌≢◌, ℕ, Bool, true, false, ◌&
 use Rattle.std.proofs.lemmas.Bool.{eq-eqb, and_from}
 use Rattle.dot_blocks.specs.declared.split.BlockError.TheVariants.{Unfinished, Rest}
 use Rattle.dot_blocks.specs.declared.place.Place.TheVariants.{DotReturn, Return}
-use Rattle.dot_blocks.specs.Blocks.{HoldsNoLineEnd, IsWireForm, IsBlock, IsRefusedFor, stuffed}
+use Rattle.dot_blocks.specs.Blocks.{HoldsNoLineEnd, IsWireForm, IsBlock, IsNoBlockFor, stuffed}
 use Rattle.dot_blocks.specs.BlockReading.{block_from, front_block}
 use Rattle.dot_blocks.specs.Heard.{IsHeard, IsAt}
 use Rattle.dot_blocks.proofs.LineEnds.{no_end_in_none, no_end_in_one}
@@ -89,7 +89,7 @@ pub two_returns : IsAt Return (13 ∷ 13 ∷ [])
 two_returns = ((13 ∷ [], refl), λ e. cc)
 
 -- a lone CR, and then a dot and CRLF, is no block
-pub lone_return_before_dot : IsRefusedFor (13 ∷ 46 ∷ 13 ∷ 10 ∷ []) Unfinished
+pub lone_return_before_dot : IsNoBlockFor (13 ∷ 46 ∷ 13 ∷ 10 ∷ []) Unfinished
 lone_return_before_dot = heard_begins_no_block (13 ∷ 46 ∷ 13 ∷ 10 ∷ []) ((13 ∷ 46 ∷ []) ∷ []) [] (record {
   whole = 13 ∷ 46 ∷ 13 ∷ 10 ∷ [];
   are_lines = (13 ∷ 46 ∷ [], [], (none (13 ∷ 46 ∷ []) refl, inl ((λ d. let e = d.1 in cc), refl)), refl, refl);
@@ -98,7 +98,7 @@ lone_return_before_dot = heard_begins_no_block (13 ∷ 46 ∷ 13 ∷ 10 ∷ []) 
 })
 
 -- neither is a lone LF, and then a dot and CRLF
-pub lone_feed_before_dot : IsRefusedFor (10 ∷ 46 ∷ 13 ∷ 10 ∷ []) Unfinished
+pub lone_feed_before_dot : IsNoBlockFor (10 ∷ 46 ∷ 13 ∷ 10 ∷ []) Unfinished
 lone_feed_before_dot = heard_begins_no_block (10 ∷ 46 ∷ 13 ∷ 10 ∷ []) ((10 ∷ 46 ∷ []) ∷ []) [] (record {
   whole = 10 ∷ 46 ∷ 13 ∷ 10 ∷ [];
   are_lines = (10 ∷ 46 ∷ [], [], (none (10 ∷ 46 ∷ []) refl, inl ((λ d. let e = d.1 in cc), refl)), refl, refl);
@@ -107,7 +107,7 @@ lone_feed_before_dot = heard_begins_no_block (10 ∷ 46 ∷ 13 ∷ 10 ∷ []) ((
 })
 
 -- a byte behind the empty block
-pub byte_behind : IsRefusedFor (46 ∷ 13 ∷ 10 ∷ 120 ∷ []) (Rest 3)
+pub byte_behind : IsNoBlockFor (46 ∷ 13 ∷ 10 ∷ 120 ∷ []) (Rest 3)
 byte_behind = (lit< tt, ([], empty_block))
 
 -- ---- read from left to right

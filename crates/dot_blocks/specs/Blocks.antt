@@ -47,10 +47,10 @@ stuffed (line ∷ lines) = stuffed_line line ++ 13 ∷ 10 ∷ stuffed lines
 -- ---- as it is split
 
 -- What bytes are refused for that should be a block. Want of memory says nothing of them.
-abbrev pub IsRefusedFor : List ℕ → BlockError → Type 0
-IsRefusedFor bytes Memory = Unit {0}
-IsRefusedFor bytes Unfinished = BeginsNoBlock bytes
-IsRefusedFor bytes (Rest used) =
+abbrev pub IsNoBlockFor : List ℕ → BlockError → Type 0
+IsNoBlockFor bytes Memory = Unit {0}
+IsNoBlockFor bytes Unfinished = BeginsNoBlock bytes
+IsNoBlockFor bytes (Rest used) =
     (used < length bytes) × ((lines : List (List ℕ)) × IsBlock lines (take used bytes))
 
 -- what a split answers of bytes that are a block of these lines and then a rest

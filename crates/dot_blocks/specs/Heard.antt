@@ -26,7 +26,7 @@ IsAt Return begun = EndsWithReturn begun × (begun ≢ 46 ∷ 13 ∷ [])
 IsAt Middle begun = ¬ (EndsWithReturn begun) × (begun ≢ []) × (begun ≢ 46 ∷ [])
 
 -- what a framer keeps after these bytes of a block that hasn't ended: its lines so far, and where the next one stands
-pub record StandsFor (framer : Place) (heard : List ℕ) (lines : List (List ℕ)) (begun : List ℕ) : Type 0 where
+pub record HasFramed (framer : Place) (heard : List ℕ) (lines : List (List ℕ)) (begun : List ℕ) : Type 0 where
   pub is_heard : IsHeard heard lines begun
   pub is_at : IsAt framer begun
 
@@ -36,10 +36,10 @@ IsEnded bytes = (wire : List ℕ) × HoldsNoLineEnd wire × (bytes ≡ wire ++ 1
 
 -- What a step over a piece says by its answer, after these bytes. `More`: the line goes on. `LineEnd`: the piece ends with
 -- the CRLF of the line, the first that came. `End`: it ends with that of the dot, and the framer is as new.
-abbrev pub Steps : Place → List ℕ → List (List ℕ) → List ℕ → List ℕ → Frame → Type 0
-Steps framer heard lines begun piece More = StandsFor framer (heard ++ piece) lines (begun ++ piece)
-Steps framer heard lines begun piece LineEnd =
+abbrev pub StepsOver : Place → List ℕ → List (List ℕ) → List ℕ → List ℕ → Frame → Type 0
+StepsOver framer heard lines begun piece More = HasFramed framer (heard ++ piece) lines (begun ++ piece)
+StepsOver framer heard lines begun piece LineEnd =
     (line wire : List ℕ) × IsWireForm line wire × (begun ++ piece ≡ wire ++ 13 ∷ 10 ∷ [])
-    × StandsFor framer (heard ++ piece) (lines ++ line ∷ []) []
-Steps framer heard lines begun piece End =
-    (begun ++ piece ≡ 46 ∷ 13 ∷ 10 ∷ []) × IsBlock lines (heard ++ piece) × StandsFor framer [] [] []
+    × HasFramed framer (heard ++ piece) (lines ++ line ∷ []) []
+StepsOver framer heard lines begun piece End =
+    (begun ++ piece ≡ 46 ∷ 13 ∷ 10 ∷ []) × IsBlock lines (heard ++ piece) × HasFramed framer [] [] []

@@ -1,7 +1,7 @@
 // The end of each line of a block, and of the block, in bytes that come in pieces.
 ghost use Rattle.std.specs.Prelude.{◌≡◌, ◌<◌, ◌≤◌, ◌++◌, [], ◌∷◌, List, ℕ, length, take, IfSome, IfNone, IsTrue, ◌↔◌};
 ghost use Rattle.dot_blocks.specs.Blocks.{HoldsNoLineEnd};
-ghost use Rattle.dot_blocks.specs.Heard.{IsAt, StandsFor, Steps, IsEnded};
+ghost use Rattle.dot_blocks.specs.Heard.{IsAt, HasFramed, StepsOver, IsEnded};
 
 use crate::line_end::line_len;
 use crate::place::Place;
@@ -21,7 +21,7 @@ pub enum Frame {
 /// Finds the ends of lines and of the block, however the bytes are cut into pieces (RFC 3977, section 3.1.1). It holds no
 /// memory.
 ///
-/// Contracts see where the line stands that has begun, which `StandsFor` ties to the bytes heard of the block so far.
+/// Contracts see where the line stands that has begun, which `HasFramed` ties to the bytes heard of the block so far.
 #[derive(Clone, Copy, Debug, PartialEq, Eq)]
 pub struct Framer {
     place: Place,
@@ -40,7 +40,7 @@ impl Model for Framer {
 impl Framer {
     /// Stands before a block.
     pub fn new() -> Self
-        ensures { StandsFor result [] [] [] }
+        ensures { HasFramed result [] [] [] }
     {
         Framer {
             place: Place::Start,
@@ -54,8 +54,8 @@ impl Framer {
         ensures some { 0 < length bytes.now → 0 < result.0 }
         ensures more { result.1 ≡ Frame.More → result.0 ≡ length bytes.now }
         ensures steps { (heard : List ℕ) (lines : List (List ℕ)) (begun : List ℕ) →
-            StandsFor self.old heard lines begun →
-            Steps self.new heard lines begun (take result.0 bytes.now) result.1 }
+            HasFramed self.old heard lines begun →
+            StepsOver self.new heard lines begun (take result.0 bytes.now) result.1 }
     {
         let place = self.place;
         match end_in(place, bytes) {
@@ -76,7 +76,7 @@ impl Framer {
 }
 
 impl Default for Framer {
-    ghost is_default = { λ framer. StandsFor framer [] [] [] };
+    ghost is_default = { λ framer. HasFramed framer [] [] [] };
 
     fn default() -> Self {
         Framer::new()

@@ -1,6 +1,6 @@
 // The lines of a whole block.
 ghost use Rattle.std.specs.Prelude.{◌≡◌, ◌≢◌, [], ◌∷◌, ◌++◌, ℕ, List, All, IfOk, IfErr, IsTrue, ◌↔◌};
-ghost use Rattle.dot_blocks.specs.Blocks.{HoldsNoLineEnd, IsBlock, IsRefusedFor, IsWireForm, Splits};
+ghost use Rattle.dot_blocks.specs.Blocks.{HoldsNoLineEnd, IsBlock, IsNoBlockFor, IsWireForm, Splits};
 
 use crate::line_end::line_len;
 use lists::{Lines, Memory};
@@ -33,7 +33,7 @@ impl From<Memory> for BlockError {
 pub fn split_block(alloc: Global, block: &[u8]) -> Result<Lines, BlockError>
     ensures lines { IfOk result (λ lines. IsBlock lines block.now) }
     ensures each_line { IfOk result (All HoldsNoLineEnd) }
-    ensures refused { IfErr result (IsRefusedFor block.now) }
+    ensures refused { IfErr result (IsNoBlockFor block.now) }
 
     // No block is refused but for memory, and none at the front is missed.
     ensures each_block { (lines : List (List ℕ)) (front rest : List ℕ) → IsBlock lines front →

@@ -18,6 +18,7 @@ pub mod StepLaws
 pub mod RunLaws
 pub mod ManyLaws
 pub mod SkipLaws
+pub mod KnownRange
 pub mod StartLaws
 pub mod PieceLaws
 pub mod Rows

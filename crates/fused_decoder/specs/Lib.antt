@@ -13,6 +13,7 @@ pub mod WholeFile
 pub mod Remainder
 pub mod Machine
 pub mod Stands
+pub mod RangeSoFar
 pub mod Steps
 pub mod Runs
 pub mod Pieces

@@ -4,6 +4,7 @@ use Rattle.io_traits.specs.Causes.{Rose}
 use Rattle.io_traits.specs.Input.{file_of}
 use Rattle.io_traits.specs.declared.blame.Blame.{Blame}
 use Rattle.io_traits.specs.declared.blame.Blame.TheVariants.{Read, Open}
+use Rattle.io_traits.specs.declared.input.Input.{Ghosts as Source}
 use Rattle.input_files.specs.declared.reading.ReadError.{ReadError}
 use Rattle.input_files.specs.declared.reading.ReadError.TheVariants.{Memory, Fault, Short, TooLong}
 use Rattle.limits.specs.declared.TheConstants.{MOST_TEXT_BYTES}
@@ -19,17 +20,17 @@ pub record Reading : Type 0 where
   pub blame_before : Option (Option Blame)
   pub blame_now : Option (Option Blame)
 
--- the same, of an input with these members
-abbrev pub reading : {S : Type 0} → (S → ℕ) → (S → ℕ) → (S → ℕ) → (S → Option ℕ) → (S → Option (Option Blame)) → S → S → Reading
-reading faults shorts short_place current blame before now = record {
-  faults_before = faults before;
-  faults_now = faults now;
-  shorts_before = shorts before;
-  shorts_now = shorts now;
-  short_place = short_place now;
-  current = current now;
-  blame_before = blame before;
-  blame_now = blame now;
+-- the same, of an input
+abbrev pub reading : {S : Type 0} → Source S → S → S → Reading
+reading input before now = record {
+  faults_before = input.faults before;
+  faults_now = input.faults now;
+  shorts_before = input.shorts before;
+  shorts_now = input.shorts now;
+  short_place = input.short_place now;
+  current = input.current now;
+  blame_before = input.blame before;
+  blame_now = input.blame now;
 }
 
 -- no call failed, and no read gave nothing

@@ -32,7 +32,7 @@ pub fn read_file<I: Input>(
     requires { most < 2 ^ 62 }
     ensures content { IfOk result (IsFileAt path.now (I.files input.old)) }
     ensures files { I.files input.new ≡ I.files input.old }
-    ensures ends { ReadEnds most (IsReadOrOpen path.now) (reading I.faults I.shorts I.short_place I.current I.blame input.old input.new) result }
+    ensures ends { ReadEnds most (IsReadOrOpen path.now) (reading I.Input input.old input.new) result }
 {
     let Ok(len) = input.open(path) else {
         return Err(ReadError::Fault);
@@ -56,7 +56,7 @@ pub fn read_part<I: Input>(
     ensures length { IfOk result (λ bytes. length bytes ≡ len) }
     ensures current { I.current input.new ≡ I.current input.old }
     ensures files { I.files input.new ≡ I.files input.old }
-    ensures ends { PieceEnds place len (reading I.faults I.shorts I.short_place I.current I.blame input.old input.new) result }
+    ensures ends { PieceEnds place len (reading I.Input input.old input.new) result }
 {
     let mut bytes = Bytes::new(alloc);
     match read_part_into(place, len, input, &mut bytes) {
@@ -81,7 +81,7 @@ pub fn read_part_into<I: Input>(
     ensures current { I.current input.new ≡ I.current input.old }
     ensures files { I.files input.new ≡ I.files input.old }
     ensures content { I.content input.new ≡ I.content input.old }
-    ensures ends { PieceEnds place len (reading I.faults I.shorts I.short_place I.current I.blame input.old input.new) result }
+    ensures ends { PieceEnds place len (reading I.Input input.old input.new) result }
 {
     bytes.clear();
     let Ok(()) = bytes.reserve(len) else {
@@ -111,7 +111,7 @@ fn read_piece<I: Input>(
     ensures current { I.current input.new ≡ I.current input.old }
     ensures files { I.files input.new ≡ I.files input.old }
     ensures content { I.content input.new ≡ I.content input.old }
-    ensures ends { PieceEnds place len (reading I.faults I.shorts I.short_place I.current I.blame input.old input.new) result }
+    ensures ends { PieceEnds place len (reading I.Input input.old input.new) result }
 {
     let at = bytes.len();
     let room = (len - at).min(PIECE);

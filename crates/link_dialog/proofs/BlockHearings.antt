@@ -19,7 +19,7 @@ use Rattle.link_dialog.specs.Moments.{IsListening, IsOver, state_of}
 use Rattle.link_dialog.specs.Fed.{ListensAt}
 use Rattle.link_dialog.specs.Hearing.{HeardSoFar, HeardTo, LineHeard}
 use Rattle.link_dialog.specs.Block.{IsInBlock}
-use Rattle.link_dialog.specs.BlockReader.{StandsIn, Steps}
+use Rattle.link_dialog.specs.BlockReader.{StandsIn, BlockSteps}
 use Rattle.link_dialog.specs.BlockHearing.{BlockSoFar}
 use Rattle.link_dialog.proofs.Feeding.{byte_goes_on, byte_ends_reply, byte_ends_link, unasked_in_piece, nothing_yet}
 use Rattle.link_dialog.proofs.BlockSteps.{goes_on_none, before_end_none, nothing_none, block_goes_on, block_ends, block_too_long, line_bytes, listens_through, front_bytes, front_split}
@@ -116,7 +116,7 @@ rest_long : (piece : List ℕ) (u : ℕ) → u ≤ length piece → u + length (
 rest_long piece u inside = omega (arith, length-drop u piece)
 
 -- the block goes on behind the piece
-pub piece_more : (before after : Option (List LinkEvent)) (link patience : ℕ) (kind : Awaited) (code : ℕ) (piece : List ℕ) (u : ℕ) (block : List ℕ) (old new : BlockReader) (kept_old kept_new : List ℕ) → 0 < patience → has_block kind code ≡ true → (s : InPiece before after link patience kind code piece u block) → StandsIn old kept_old block → old.heard ≡ length s.status + length block → Steps old kept_old new kept_new block (drop u piece) More → BlockSoFar before after link patience kind code new kept_new 0
+pub piece_more : (before after : Option (List LinkEvent)) (link patience : ℕ) (kind : Awaited) (code : ℕ) (piece : List ℕ) (u : ℕ) (block : List ℕ) (old new : BlockReader) (kept_old kept_new : List ℕ) → 0 < patience → has_block kind code ≡ true → (s : InPiece before after link patience kind code piece u block) → StandsIn old kept_old block → old.heard ≡ length s.status + length block → BlockSteps old kept_old new kept_new block (drop u piece) More → BlockSoFar before after link patience kind code new kept_new 0
 piece_more before after link patience kind code piece u block old new kept_old kept_new patient has s stands count steps =
     let left = rest_long piece u s.inside in
     let step = steps stands in

@@ -1,16 +1,16 @@
--- Steps of a reader of a block.
+-- StepsOver of a reader of a block.
 use Rattle.std.proofs.Common.{◌≡◌, ◌≤◌, ◌+◌, ◌-◌, ℕ, List, [], ◌∷◌, ◌++◌, ap, sym, subst, ◌∙◌, append_assoc, take, drop, length, arith}
 use Rattle.std.proofs.Math.Seq.{take-add}
 use Rattle.std.proofs.lemmas.List.{take_rest, length-drop}
 use Rattle.dot_blocks.specs.declared.place.Place.{Place}
 use Rattle.dot_blocks.specs.declared.framer.Frame.{Frame}
 use Rattle.dot_blocks.specs.declared.framer.Frame.TheVariants.{More, LineEnd, End}
-use Rattle.dot_blocks.specs.Heard.{StandsFor, Steps}
+use Rattle.dot_blocks.specs.Heard.{HasFramed, StepsOver}
 use Rattle.link_dialog.specs.Block.{IsInBlock, IsBlockOf}
 
 -- what a step of the framer says, wherever it stands
 abbrev pub Frames : Place → Place → List ℕ → Frame → Type 0
-Frames old new piece frame = (heard : List ℕ) (lines : List (List ℕ)) (begun : List ℕ) → StandsFor old heard lines begun → Steps new heard lines begun piece frame
+Frames old new piece frame = (heard : List ℕ) (lines : List (List ℕ)) (begun : List ℕ) → HasFramed old heard lines begun → StepsOver new heard lines begun piece frame
 
 pub frame_more : (old new : Place) (piece heard : List ℕ) → Frames old new piece More → IsInBlock old heard → IsInBlock new (heard ++ piece)
 frame_more old new piece heard frames s = (s.0, s.1 ++ piece, frames heard s.0 s.1 s.2)

@@ -11,7 +11,7 @@ use Rattle.link_dialog.specs.declared.reader.Step.{Step}
 use Rattle.link_dialog.specs.declared.reader.Step.TheVariants.{More, Line, Over}
 use Rattle.link_dialog.specs.Events.{single_bytes}
 use Rattle.link_dialog.specs.Replies.{Reply, whole_reply, why_of_rest, first_line}
-use Rattle.link_dialog.specs.Reader.{StandsFor, Says}
+use Rattle.link_dialog.specs.Reader.{HoldsRest, Says}
 use Rattle.link_dialog.specs.Moments.{IsListening, IsOver, state_of}
 use Rattle.link_dialog.specs.Fed.{ListensAt, IsFed, IsRead, EndsAt}
 use Rattle.link_dialog.proofs.MomentSteps.{Asked, hear_more, hear_reply, hear_over, hear_unasked, over_stays}
@@ -86,25 +86,25 @@ step_by p link asked m replies kind rest piece i (Line code) reader some below s
 step_by p link asked m replies kind rest piece i (Over reason) reader some below s says =
     byte_ends_link p link asked m replies kind rest piece i reason some below s says.0 says.1
 
-says_next : (kind : Awaited) (rest piece : List ℕ) (i : ℕ) (step : Step) (before after : Reader) → i < length piece → StandsFor before (rest ++ take i piece) → ((r : List ℕ) → StandsFor before r → Says kind (r ++ get_or piece i 0 ∷ []) step after) → Says kind (rest ++ take (i + 1) piece) step after
+says_next : (kind : Awaited) (rest piece : List ℕ) (i : ℕ) (step : Step) (before after : Reader) → i < length piece → HoldsRest before (rest ++ take i piece) → ((r : List ℕ) → HoldsRest before r → Says kind (r ++ get_or piece i 0 ∷ []) step after) → Says kind (rest ++ take (i + 1) piece) step after
 says_next kind rest piece i step before after below stands says =
     subst (λ (r : List ℕ). Says kind r step after) (sym (rest_more rest piece i below)) (says (rest ++ take i piece) stands)
 
-pub step_in_piece : (p link : ℕ) (asked : Asked) (m : List LinkEvent) (replies : List Reply) (kind : Awaited) (rest piece : List ℕ) (i : ℕ) (step : Step) (before after : Reader) → 0 < p → i < length piece → ListensAt p link asked m replies kind rest (take i piece) → StandsFor before (rest ++ take i piece) → ((r : List ℕ) → StandsFor before r → Says kind (r ++ get_or piece i 0 ∷ []) step after) → Stepped p link asked m replies kind rest piece i step
+pub step_in_piece : (p link : ℕ) (asked : Asked) (m : List LinkEvent) (replies : List Reply) (kind : Awaited) (rest piece : List ℕ) (i : ℕ) (step : Step) (before after : Reader) → 0 < p → i < length piece → ListensAt p link asked m replies kind rest (take i piece) → HoldsRest before (rest ++ take i piece) → ((r : List ℕ) → HoldsRest before r → Says kind (r ++ get_or piece i 0 ∷ []) step after) → Stepped p link asked m replies kind rest piece i step
 step_in_piece p link asked m replies kind rest piece i step before after some below s stands says =
     step_by p link asked m replies kind rest piece i step after some below s (says_next kind rest piece i step before after below stands says)
 
 -- the line goes on, or it ends
-pub line_goes_on_in : (kind : Awaited) (rest piece : List ℕ) (i : ℕ) (before after : Reader) → i < length piece → StandsFor before (rest ++ take i piece) → ((r : List ℕ) → StandsFor before r → Says kind (r ++ get_or piece i 0 ∷ []) More after) → StandsFor after (rest ++ take (i + 1) piece)
+pub line_goes_on_in : (kind : Awaited) (rest piece : List ℕ) (i : ℕ) (before after : Reader) → i < length piece → HoldsRest before (rest ++ take i piece) → ((r : List ℕ) → HoldsRest before r → Says kind (r ++ get_or piece i 0 ∷ []) More after) → HoldsRest after (rest ++ take (i + 1) piece)
 line_goes_on_in kind rest piece i before after below stands says = (says_next kind rest piece i More before after below stands says).2
 
-pub line_ends_in : (kind : Awaited) (rest piece : List ℕ) (i code : ℕ) (before after : Reader) → i < length piece → StandsFor before (rest ++ take i piece) → ((r : List ℕ) → StandsFor before r → Says kind (r ++ get_or piece i 0 ∷ []) (Line code) after) → IsRead kind rest piece (i + 1) (Line code) after
+pub line_ends_in : (kind : Awaited) (rest piece : List ℕ) (i code : ℕ) (before after : Reader) → i < length piece → HoldsRest before (rest ++ take i piece) → ((r : List ℕ) → HoldsRest before r → Says kind (r ++ get_or piece i 0 ∷ []) (Line code) after) → IsRead kind rest piece (i + 1) (Line code) after
 line_ends_in kind rest piece i code before after below stands says = (omega arith, says_next kind rest piece i (Line code) before after below stands says)
 
-unfinished_before : (rest piece : List ℕ) (i : ℕ) (before : Reader) → StandsFor before (rest ++ take i piece) → first_line (rest ++ take ((i + 1) - 1) piece) ≡ None
+unfinished_before : (rest piece : List ℕ) (i : ℕ) (before : Reader) → HoldsRest before (rest ++ take i piece) → first_line (rest ++ take ((i + 1) - 1) piece) ≡ None
 unfinished_before rest piece i before stands = let back : (i + 1) - 1 ≡ i = omega arith in rw back stands.unfinished
 
-short_before : (rest piece : List ℕ) (i : ℕ) (before : Reader) → StandsFor before (rest ++ take i piece) → length (rest ++ take ((i + 1) - 1) piece) < 512
+short_before : (rest piece : List ℕ) (i : ℕ) (before : Reader) → HoldsRest before (rest ++ take i piece) → length (rest ++ take ((i + 1) - 1) piece) < 512
 short_before rest piece i before stands =
     let back : (i + 1) - 1 ≡ i = omega arith in
     let below : before.len < 512 = before.in_range in
@@ -112,10 +112,10 @@ short_before rest piece i before stands =
     rw back (omega (arith, below, same, length-take before.len before.line))
 
 -- the piece ended the line, or the link
-pub line_ended_at : (kind : Awaited) (rest piece : List ℕ) (i code : ℕ) (before : Reader) → StandsFor before (rest ++ take i piece) → EndsAt kind rest piece (i + 1) (Line code)
+pub line_ended_at : (kind : Awaited) (rest piece : List ℕ) (i code : ℕ) (before : Reader) → HoldsRest before (rest ++ take i piece) → EndsAt kind rest piece (i + 1) (Line code)
 line_ended_at kind rest piece i code before stands = unfinished_before rest piece i before stands
 
-pub link_ended_at : (kind : Awaited) (rest piece : List ℕ) (i : ℕ) (reason : Why) (before after : Reader) → i < length piece → StandsFor before (rest ++ take i piece) → ((r : List ℕ) → StandsFor before r → Says kind (r ++ get_or piece i 0 ∷ []) (Over reason) after) → EndsAt kind rest piece (i + 1) (Over reason)
+pub link_ended_at : (kind : Awaited) (rest piece : List ℕ) (i : ℕ) (reason : Why) (before after : Reader) → i < length piece → HoldsRest before (rest ++ take i piece) → ((r : List ℕ) → HoldsRest before r → Says kind (r ++ get_or piece i 0 ∷ []) (Over reason) after) → EndsAt kind rest piece (i + 1) (Over reason)
 link_ended_at kind rest piece i reason before after below stands says = (
   unfinished_before rest piece i before stands,
   short_before rest piece i before stands,
@@ -132,5 +132,5 @@ nothing_yet p link asked m replies kind rest s =
 pub all_listened : (p link : ℕ) (asked : Asked) (m : List LinkEvent) (replies : List Reply) (kind : Awaited) (rest piece : List ℕ) (n : ℕ) → length piece ≤ n → ListensAt p link asked m replies kind rest (take n piece) → ListensAt p link asked m replies kind rest piece
 all_listened p link asked m replies kind rest piece n all s = subst (λ (t : List ℕ). ListensAt p link asked m replies kind rest t) (take_all n piece all) s
 
-pub all_stands : (rest piece : List ℕ) (n : ℕ) (reader : Reader) → length piece ≤ n → StandsFor reader (rest ++ take n piece) → StandsFor reader (rest ++ piece)
-all_stands rest piece n reader all s = subst (λ (t : List ℕ). StandsFor reader (rest ++ t)) (take_all n piece all) s
+pub all_stands : (rest piece : List ℕ) (n : ℕ) (reader : Reader) → length piece ≤ n → HoldsRest reader (rest ++ take n piece) → HoldsRest reader (rest ++ piece)
+all_stands rest piece n reader all s = subst (λ (t : List ℕ). HoldsRest reader (rest ++ t)) (take_all n piece all) s

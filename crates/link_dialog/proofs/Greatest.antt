@@ -7,7 +7,7 @@ use Rattle.dot_blocks.proofs.BlockLaws.{blocks_once}
 use Rattle.dot_blocks.proofs.FrontBlock.{block_found}
 use Rattle.nntp_lines.specs.declared.why.Why.{Why}
 use Rattle.link_dialog.specs.declared.awaited.Awaited.{Awaited}
-use Rattle.link_dialog.specs.Reading.{shortest_from, Reading, reading_of, IsSplit, IsPrefixFree}
+use Rattle.link_dialog.specs.Reading.{shortest_from, RepliesRead, reading_of, IsSplit, IsPrefixFree}
 use Rattle.link_dialog.specs.Replies.{Reply, first_line, with_byte, whole_reply, reply_of, reply_judged, reply_with_block, reply_at_end, has_block, judged, most}
 use Rattle.link_dialog.proofs.Readings.{by_cases, found_at_once, found_later, read_some, read_none}
 
@@ -35,7 +35,7 @@ found_exactly whole free before (byte ∷ piece) after reply is =
 pub reading_is_split : {K R : Type 0} (whole : K → List ℕ → Option R) (kinds : List K) (bytes : List ℕ) → IsSplit whole kinds bytes (reading_of whole kinds bytes).replies (reading_of whole kinds bytes).waiting (reading_of whole kinds bytes).rest
 reading_is_split whole [] bytes = (refl, refl)
 reading_is_split {K = K} {R = R} whole (kind ∷ kinds) bytes =
-    let P : Reading K R → Type 0 = λ m. IsSplit whole (kind ∷ kinds) bytes m.replies m.waiting m.rest in
+    let P : RepliesRead K R → Type 0 = λ m. IsSplit whole (kind ∷ kinds) bytes m.replies m.waiting m.rest in
     by_cases (shortest_from (whole kind) [] bytes)
     (λ found is. let piece = found_is (whole kind) [] bytes found is in
     subst P (sym (read_some whole kind kinds bytes found is)) (piece.0, found.1, piece.1, piece.2, reading_is_split whole kinds found.1))
@@ -49,7 +49,7 @@ reading_is_greatest {K = K} {R = R} whole (kind ∷ kinds) bytes (reply ∷ repl
     let found : shortest_from (whole kind) [] bytes ≡ Some (reply, split.1) =
     ap (λ b. shortest_from (whole kind) [] b) split.2 ∙ found_exactly (whole kind) (free kind) [] split.0 split.1 reply split.3 in
     let more = reading_is_greatest whole kinds split.1 replies waiting rest free split.4 in
-    (more.0, ap (λ (m : Reading K R). m.replies) (read_some whole kind kinds bytes (reply, split.1) found) ∙ ap (λ rs. reply ∷ rs) more.1)
+    (more.0, ap (λ (m : RepliesRead K R). m.replies) (read_some whole kind kinds bytes (reply, split.1) found) ∙ ap (λ rs. reply ∷ rs) more.1)
 
 -- a line end that is there, or not, stays so
 stays_at_test : (test : Bool) (c : ℕ) (tail more : List ℕ) (rest longer : Option (List ℕ × List ℕ)) (line : List ℕ × List ℕ) → cond test (Some ([], tail)) (option_map (with_byte c) rest) ≡ Some line → ((found : List ℕ × List ℕ) → rest ≡ Some found → longer ≡ Some (found.0, found.1 ++ more)) → cond test (Some ([], tail ++ more)) (option_map (with_byte c) longer) ≡ Some (line.0, line.1 ++ more)

@@ -12,7 +12,7 @@ use Rattle.link_dialog.specs.declared.awaited.Awaited.TheVariants.{Greeting}
 use Rattle.link_dialog.specs.Dialog.{Message, all_bytes, asked_by, kinds_within, answers_to}
 use Rattle.link_dialog.specs.Events.{fine}
 use Rattle.link_dialog.specs.Moments.{lived_from, last_moment, why_at}
-use Rattle.link_dialog.specs.Reading.{Reading, reading_of, shortest_from}
+use Rattle.link_dialog.specs.Reading.{RepliesRead, reading_of, shortest_from}
 use Rattle.link_dialog.specs.Replies.{Reply, whole_reply}
 use Rattle.link_dialog.proofs.EventSteps.{sent-append, sent-fine}
 use Rattle.link_dialog.proofs.Readings.{by_cases, read_some, read_none}
@@ -23,7 +23,7 @@ use Rattle.link_dialog.proofs.Readings.{by_cases, read_some, read_none}
 few_replies : {K R : Type 0} (whole : K → List ℕ → Option R) (kinds : List K) (bytes : List ℕ) → length (reading_of whole kinds bytes).replies ≤ length kinds
 few_replies whole [] bytes = lit≤ tt
 few_replies {K = K} {R = R} whole (kind ∷ kinds) bytes =
-    let P : Reading K R → Type 0 = λ m. length m.replies ≤ length (kind ∷ kinds) in
+    let P : RepliesRead K R → Type 0 = λ m. length m.replies ≤ length (kind ∷ kinds) in
     by_cases (shortest_from (whole kind) [] bytes)
     (λ found is. subst P (sym (read_some whole kind kinds bytes found is)) (let more : length (reading_of whole kinds found.1).replies ≤ length kinds = few_replies whole kinds found.1 in omega arith))
     (λ none. subst P (sym (read_none whole kind kinds bytes none)) (omega arith))

@@ -19,9 +19,9 @@ use Rattle.link_dialog.specs.declared.reader.Reader.{Reader}
 use Rattle.link_dialog.specs.declared.reader.Step.{Step}
 use Rattle.link_dialog.specs.declared.reader.Step.TheVariants.{More, Line, Over}
 use Rattle.link_dialog.specs.Events.{AllOn, fine, quiet_after, quiets_at_end, single_bytes}
-use Rattle.link_dialog.specs.Reading.{Reading}
+use Rattle.link_dialog.specs.Reading.{RepliesRead}
 use Rattle.link_dialog.specs.Replies.{Reply, has_block, whole_reply, is_meant, is_read, judged_code}
-use Rattle.link_dialog.specs.Reader.{StandsFor, IsLine, held}
+use Rattle.link_dialog.specs.Reader.{HoldsRest, IsLine, held}
 use Rattle.link_dialog.specs.Moments.{IsListening, IsOver, state_of, why_at, reading_at}
 use Rattle.link_dialog.specs.Dialog.{Message, asked_by, Follows, EachEvent, MayFollow}
 use Rattle.link_dialog.specs.Sending.{sends}
@@ -66,7 +66,7 @@ receives : (messages : List Message) (patience : ℕ) (kind : Awaited) (before g
 receives messages patience kind before got replies bytes quiet event s may =
     each_more (Follows messages patience) before got event s.each record {
       not_over = ap (λ m. why_at patience (asked_by messages) m) s.listening.lived ∙ s.listening.not_over;
-      in_turn = may (ap (λ (r : Reading Awaited Reply). r.waiting) s.listening.reading);
+      in_turn = may (ap (λ (r : RepliesRead Awaited Reply). r.waiting) s.listening.reading);
     }
 
 not_empty : (kind : Awaited) (waiting : List Awaited) → waiting ≡ kind ∷ [] → waiting ≡ [] → ⊥
@@ -203,17 +203,17 @@ ended_to_end before now after link patience kind quiet s told = record {
 -- the reader stands for what was heard of the line
 pub record LineSoFar (before now : Option (List LinkEvent)) (link patience : ℕ) (kind : Awaited) (reader : Reader) (quiet : ℕ) : Type 0 where
   pub so_far : HeardSoFar before now link patience kind quiet
-  pub stands : StandsFor reader so_far.bytes
+  pub stands : HoldsRest reader so_far.bytes
 
 -- what the reader says of a piece
 abbrev pub ReadAt : Awaited → List ℕ → ℕ → Step → Reader → Reader → Type 0
-ReadAt kind piece used step old new = (rest : List ℕ) → StandsFor old rest → IsRead kind rest piece used step new
+ReadAt kind piece used step old new = (rest : List ℕ) → HoldsRest old rest → IsRead kind rest piece used step new
 
 abbrev pub FedAt : ℕ → ℕ → Awaited → List ℕ → ℕ → Step → Reader → Type 0
 FedAt patience link kind piece used step old =
-    (asked : List ℕ → List Awaited) (moment : List LinkEvent) (replies : List Reply) (rest : List ℕ) → StandsFor old rest → IsListening patience asked moment (state_of replies (kind ∷ []) rest) → IsFed patience link asked moment replies kind rest piece used step
+    (asked : List ℕ → List Awaited) (moment : List LinkEvent) (replies : List Reply) (rest : List ℕ) → HoldsRest old rest → IsListening patience asked moment (state_of replies (kind ∷ []) rest) → IsFed patience link asked moment replies kind rest piece used step
 
-pub line_begins : (told : Option (List LinkEvent)) (link patience : ℕ) (kind : Awaited) (reader : Reader) → StandsFor reader [] → LineSoFar told told link patience kind reader 0
+pub line_begins : (told : Option (List LinkEvent)) (link patience : ℕ) (kind : Awaited) (reader : Reader) → HoldsRest reader [] → LineSoFar told told link patience kind reader 0
 unfolding nothing_heard
 line_begins told link patience kind reader stands = record { so_far = nothing_heard told link patience kind; stands = stands }
 

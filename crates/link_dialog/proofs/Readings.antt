@@ -1,6 +1,6 @@
 -- How the replies of a list of bytes go on when more is heard, or more is asked.
 use Rattle.std.proofs.Common.{◌≡◌, ℕ, List, [], ◌∷◌, ◌++◌, Option, Some, None, refl, ap, sym, subst, ◌∙◌, append_assoc}
-use Rattle.link_dialog.specs.Reading.{ends_here, shortest_from, Reading, with_replies, read_found, reading_of}
+use Rattle.link_dialog.specs.Reading.{ends_here, shortest_from, RepliesRead, with_replies, read_found, reading_of}
 
 -- an `Option` by its cases, each with its equation
 pub by_cases : {A G : Type 0} (o : Option A) → ((x : A) → o ≡ Some x → G) → (o ≡ None → G) → G
@@ -38,7 +38,7 @@ pub read_none : {K R : Type 0} (whole : K → List ℕ → Option R) (kind : K) 
 read_none whole kind kinds bytes is = ap (λ o. read_found o (λ after. reading_of whole kinds after) (kind ∷ kinds) bytes) is
 
 -- what is read of more bytes by more kinds, after a reading of the first bytes by the first kinds
-abbrev pub resumed : {K R : Type 0} → (K → List ℕ → Option R) → Reading K R → List K → List ℕ → Reading K R
+abbrev pub resumed : {K R : Type 0} → (K → List ℕ → Option R) → RepliesRead K R → List K → List ℕ → RepliesRead K R
 resumed whole reading kinds more = with_replies reading.replies (reading_of whole (reading.waiting ++ kinds) (reading.rest ++ more))
 
 -- more bytes and more kinds: what was read stays, and the rest is read on
@@ -48,9 +48,9 @@ read_on {K = K} {R = R} whole (kind ∷ kinds) more_kinds bytes more =
     by_cases (shortest_from (whole kind) [] bytes)
     (λ found is.
     read_some whole kind (kinds ++ more_kinds) (bytes ++ more) (found.0, found.1 ++ more) (found_stays (whole kind) [] bytes more found is)
-    ∙ ap (λ (m : Reading K R). with_replies (found.0 ∷ []) m) (read_on whole kinds more_kinds found.1 more)
-    ∙ ap (λ (m : Reading K R). resumed whole m more_kinds more) (sym (read_some whole kind kinds bytes found is)))
-    (λ none. ap (λ (m : Reading K R). resumed whole m more_kinds more) (sym (read_none whole kind kinds bytes none)))
+    ∙ ap (λ (m : RepliesRead K R). with_replies (found.0 ∷ []) m) (read_on whole kinds more_kinds found.1 more)
+    ∙ ap (λ (m : RepliesRead K R). resumed whole m more_kinds more) (sym (read_some whole kind kinds bytes found is)))
+    (λ none. ap (λ (m : RepliesRead K R). resumed whole m more_kinds more) (sym (read_none whole kind kinds bytes none)))
 
 -- one more byte, where nothing is whole yet: only all of it can be
 pub found_last : {R : Type 0} (whole : List ℕ → Option R) (before after : List ℕ) (byte : ℕ) → shortest_from whole before after ≡ None → shortest_from whole before (after ++ byte ∷ []) ≡ ends_here (whole (before ++ (after ++ byte ∷ []))) []
@@ -67,7 +67,7 @@ found_last whole before (first ∷ after) byte none =
 pub rest_settled : {K R : Type 0} (whole : K → List ℕ → Option R) (kinds : List K) (bytes : List ℕ) → reading_of whole (reading_of whole kinds bytes).waiting (reading_of whole kinds bytes).rest ≡ record { replies = []; waiting = (reading_of whole kinds bytes).waiting; rest = (reading_of whole kinds bytes).rest }
 rest_settled whole [] bytes = refl
 rest_settled {K = K} {R = R} whole (kind ∷ kinds) bytes =
-    let P : Reading K R → Type 0 = λ m. reading_of whole m.waiting m.rest ≡ record { replies = []; waiting = m.waiting; rest = m.rest } in
+    let P : RepliesRead K R → Type 0 = λ m. reading_of whole m.waiting m.rest ≡ record { replies = []; waiting = m.waiting; rest = m.rest } in
     by_cases (shortest_from (whole kind) [] bytes)
     (λ found is. subst P (sym (read_some whole kind kinds bytes found is)) (rest_settled whole kinds found.1))
     (λ none. subst P (sym (read_none whole kind kinds bytes none)) (read_none whole kind kinds bytes none))
@@ -76,5 +76,5 @@ rest_settled {K = K} {R = R} whole (kind ∷ kinds) bytes =
 pub rest_has_none : {K R : Type 0} (whole : K → List ℕ → Option R) (kind : K) (kinds : List K) (rest : List ℕ) → reading_of whole (kind ∷ kinds) rest ≡ record { replies = []; waiting = kind ∷ kinds; rest = rest } → shortest_from (whole kind) [] rest ≡ None
 rest_has_none {K = K} {R = R} whole kind kinds rest settled =
     by_cases (shortest_from (whole kind) [] rest)
-    (λ found is. let two : found.0 ∷ (reading_of whole kinds found.1).replies ≡ [] = ap (λ (m : Reading K R). m.replies) (sym (read_some whole kind kinds rest found is) ∙ settled) in cc)
+    (λ found is. let two : found.0 ∷ (reading_of whole kinds found.1).replies ≡ [] = ap (λ (m : RepliesRead K R). m.replies) (sym (read_some whole kind kinds rest found is) ∙ settled) in cc)
     (λ none. none)

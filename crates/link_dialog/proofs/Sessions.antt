@@ -7,7 +7,7 @@ use Rattle.link_dialog.specs.declared.dialog.Dialog.{Dialog}
 use Rattle.link_dialog.specs.Moments.{why_over}
 use Rattle.link_dialog.specs.Replies.{Reply}
 use Rattle.link_dialog.specs.Dialog.{Message, AreFull, all_bytes, asked_by, login_messages, answers_of, IsDialog}
-use Rattle.link_dialog.specs.Talk.{Start, Rests, Ends, Talked, IsRefused, IsSettled, bytes_said, said_of, quit_message}
+use Rattle.link_dialog.specs.Talk.{Start, Rests, Ends, Talked, IsMessageRefused, IsSettled, bytes_said, said_of, quit_message}
 use Rattle.link_dialog.proofs.HeardCount.{few_heard}
 use Rattle.link_dialog.proofs.Standing.{full-append, bytes-append}
 use Rattle.link_dialog.proofs.Talking.{ends_talked}
@@ -49,12 +49,12 @@ quit_at_end start now patience messages out reason replies e = ends_talked start
 
 -- a message that is refused, behind whose reply QUIT was said
 pub refused : (start : Start) (now : Option (List LinkEvent)) (patience : ℕ) (messages : List Message) (message : Message) (replies : List Reply) (reply : Reply) (code : ℕ) → reply.code ≡ code →
-    Talked start now patience ((messages ++ message ∷ []) ++ quit_message ∷ []) (replies ++ reply ∷ []) → IsRefused start now patience messages message replies code
+    Talked start now patience ((messages ++ message ∷ []) ++ quit_message ∷ []) (replies ++ reply ∷ []) → IsMessageRefused start now patience messages message replies code
 refused start now patience messages message replies reply code is t = record { reply = reply; code_is = is; talked = t }
 
 -- the same, where bytes came behind it
 pub refused_at_end : (start : Start) (now : Option (List LinkEvent)) (patience : ℕ) (messages : List Message) (message : Message) (out : List ℕ) (reason : Why) (replies : List Reply) (reply : Reply) (code : ℕ) → reply.code ≡ code →
-    Ends start now patience (messages ++ message ∷ []) out reason (replies ++ reply ∷ []) → IsRefused start now patience messages message replies code
+    Ends start now patience (messages ++ message ∷ []) out reason (replies ++ reply ∷ []) → IsMessageRefused start now patience messages message replies code
 refused_at_end start now patience messages message out reason replies reply code is e =
     refused start now patience messages message replies reply code is (quit_at_end start now patience (messages ++ message ∷ []) out reason (replies ++ reply ∷ []) e)
 

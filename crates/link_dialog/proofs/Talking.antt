@@ -16,7 +16,7 @@ use Rattle.link_dialog.specs.declared.answer.GroupAnswer.{GroupAnswer}
 use Rattle.link_dialog.specs.declared.answer.GroupAnswer.TheVariants as group_answer
 use Rattle.link_dialog.specs.declared.dialog.Dialog.{Dialog}
 use Rattle.link_dialog.specs.declared.dialog.Cut.{Cut}
-use Rattle.link_dialog.specs.Reading.{Reading}
+use Rattle.link_dialog.specs.Reading.{RepliesRead}
 use Rattle.link_dialog.specs.Replies.{Reply}
 use Rattle.link_dialog.specs.Moments.{reading_at}
 use Rattle.link_dialog.specs.Dialog.{Message, IsFull, AreFull, all_bytes, asked_by, login_messages}
@@ -163,7 +163,7 @@ waits_talked start now link patience messages replies kind w =
       told = w.stands.told;
       dialog = record {
         dialog = record { each = goes.each; front = ([], append-nil (sent w.stands.events) ∙ w.stands.whole); all = λ none. w.stands.whole };
-        answers = ap (λ m. (reading_at (asked_by said) m).replies) goes.listening.lived ∙ ap (λ (r : Reading Awaited Reply). r.replies) goes.listening.reading;
+        answers = ap (λ m. (reading_at (asked_by said) m).replies) goes.listening.lived ∙ ap (λ (r : RepliesRead Awaited Reply). r.replies) goes.listening.reading;
       };
     }
 

@@ -9,7 +9,7 @@ use Rattle.io_traits.specs.declared.links.LinkEvent.TheVariants.{Sent}
 use Rattle.io_traits.specs.Trace.{sent}
 use Rattle.link_dialog.specs.declared.awaited.Awaited.{Awaited}
 use Rattle.link_dialog.specs.Events.{fine, quiet_after, quiets_at_end}
-use Rattle.link_dialog.specs.Reading.{Reading}
+use Rattle.link_dialog.specs.Reading.{RepliesRead}
 use Rattle.link_dialog.specs.Replies.{Reply}
 use Rattle.link_dialog.specs.Moments.{IsListening, state_of, why_at, reading_at}
 use Rattle.link_dialog.specs.Dialog.{Message, IsFull, AreFull, asked_by, kinds_within, begun_within, all_bytes, Follows, EachEvent}
@@ -103,7 +103,7 @@ send_piece messages done message left patience link replies part piece events pa
     ap (λ n. begun_within messages n) (omega (arith, length_before))
     ∙ ap (λ ms. begun_within ms (length (all_bytes done) + (length part + length piece))) turn.split
     ∙ begun_after done message left (length part + length piece) turn.done_full (omega arith) fits in
-    let heard : (reading_at (asked_by messages) (fine events)).replies ≡ replies = ap (λ (r : Reading Awaited Reply). r.replies) listening.reading in
+    let heard : (reading_at (asked_by messages) (fine events)).replies ≡ replies = ap (λ (r : RepliesRead Awaited Reply). r.replies) listening.reading in
     let in_turn : begun_within messages (length (sent (fine events)) + length piece) ≤ length (reading_at (asked_by messages) (fine events)).replies = rw (begun, heard, count) (omega arith) in
     record {
       each = each_more (Follows messages patience) [] events (Sent link piece) s.each record {

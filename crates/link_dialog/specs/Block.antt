@@ -2,11 +2,11 @@
 use Rattle.std.specs.Prelude.{◌≡◌, ℕ, Bool, true, false, List, []}
 use Rattle.dot_blocks.specs.declared.place.Place.{Place}
 use Rattle.dot_blocks.specs.Blocks.{IsBlock}
-use Rattle.dot_blocks.specs.Heard.{StandsFor}
+use Rattle.dot_blocks.specs.Heard.{HasFramed}
 
 -- the block hasn't ended with these bytes, and the framer stands behind them
 abbrev pub IsInBlock : Place → List ℕ → Type 0
-IsInBlock framer heard = (lines : List (List ℕ)) × (begun : List ℕ) × StandsFor framer heard lines begun
+IsInBlock framer heard = (lines : List (List ℕ)) × (begun : List ℕ) × HasFramed framer heard lines begun
 
 -- they are a block
 abbrev pub IsBlockOf : List ℕ → Type 0

@@ -11,17 +11,17 @@ pub record StandsIn (reader : BlockReader) (kept heard : List ℕ) : Type 0 wher
   pub place : IsInBlock reader.framer heard
   pub bytes : IsKept reader.kept kept heard
 
-abbrev pub Begins : BlockReader → ℕ → Type 0
-Begins reader line = StandsIn reader [] [] × (reader.heard ≡ line)
+abbrev pub BlockBegins : BlockReader → ℕ → Type 0
+BlockBegins reader line = StandsIn reader [] [] × (reader.heard ≡ line)
 
 -- the block goes on behind the piece, or it ended, or at some byte the reply has too many
-abbrev pub Steps : BlockReader → List ℕ → BlockReader → List ℕ → List ℕ → List ℕ → BlockStep → Type 0
-Steps old kept_old new kept_new heard piece More =
+abbrev pub BlockSteps : BlockReader → List ℕ → BlockReader → List ℕ → List ℕ → List ℕ → BlockStep → Type 0
+BlockSteps old kept_old new kept_new heard piece More =
     StandsIn old kept_old heard → StandsIn new kept_new (heard ++ piece) × (new.heard ≡ old.heard + length piece)
-Steps old kept_old new kept_new heard piece (End used) =
+BlockSteps old kept_old new kept_new heard piece (End used) =
     StandsIn old kept_old heard → (0 < used) × (used ≤ length piece) × (old.heard + used ≤ most)
     × IsBlockOf (heard ++ take used piece) × IsKept new.kept kept_new (heard ++ take used piece)
-Steps old kept_old new kept_new heard piece TooLong =
+BlockSteps old kept_old new kept_new heard piece TooLong =
     StandsIn old kept_old heard → (n : ℕ) × (n < length piece) × (old.heard + n ≡ most) × IsInBlock new.framer (heard ++ take n piece)
 
 -- where the block goes on, each byte of the piece is counted

@@ -8,7 +8,7 @@ use Rattle.link_dialog.specs.declared.reader.Step.TheVariants.{More, Line, Over}
 use Rattle.link_dialog.specs.Events.{single_bytes}
 use Rattle.link_dialog.specs.Replies.{Reply, first_line, why_of_rest}
 use Rattle.link_dialog.specs.Moments.{IsListening, IsOver, state_of}
-use Rattle.link_dialog.specs.Reader.{StandsFor, IsLine}
+use Rattle.link_dialog.specs.Reader.{HoldsRest, IsLine}
 
 -- after this front of a piece the link listens for the same reply
 abbrev pub ListensAt : ℕ → ℕ → (List ℕ → List Awaited) → List LinkEvent → List Reply → Awaited → List ℕ → List ℕ → Type 0
@@ -17,7 +17,7 @@ ListensAt patience link asked moment replies kind rest front =
 
 -- what was read: the line goes on through all of the piece, or it ended with the last byte that was used
 abbrev pub IsRead : Awaited → List ℕ → List ℕ → ℕ → Step → Reader → Type 0
-IsRead kind rest piece used More reader = (used ≡ length piece) × StandsFor reader (rest ++ piece)
+IsRead kind rest piece used More reader = (used ≡ length piece) × HoldsRest reader (rest ++ piece)
 IsRead kind rest piece used (Line code) reader = (0 < used) × IsLine kind (rest ++ take used piece) code reader
 IsRead kind rest piece used (Over reason) reader = Unit {0}
 

@@ -2,7 +2,7 @@
 use Rattle.std.specs.Prelude.{◌≡◌, ℕ, List, ◌++◌, None}
 use Rattle.io_traits.specs.declared.links.LinkEvent.{LinkEvent}
 use Rattle.link_dialog.specs.declared.awaited.Awaited.{Awaited}
-use Rattle.link_dialog.specs.Reading.{Reading, reading_of, with_replies, IsSplit, IsPrefixFree}
+use Rattle.link_dialog.specs.Reading.{RepliesRead, reading_of, with_replies, IsSplit, IsPrefixFree}
 use Rattle.link_dialog.specs.Replies.{Reply, whole_reply}
 use Rattle.link_dialog.specs.Dialog.{Message, IsDialog}
 
@@ -22,7 +22,7 @@ ReadingIsGreatest = (kinds : List Awaited) (bytes : List ℕ) (replies : List Re
     (more : List Reply) × ((reading_of whole_reply kinds bytes).replies ≡ replies ++ more)
 
 -- what is read of more bytes by more kinds, after a reading of the first bytes by the first kinds
-abbrev pub read_on_from : Reading Awaited Reply → List Awaited → List ℕ → Reading Awaited Reply
+abbrev pub read_on_from : RepliesRead Awaited Reply → List Awaited → List ℕ → RepliesRead Awaited Reply
 read_on_from reading kinds more = with_replies reading.replies (reading_of whole_reply (reading.waiting ++ kinds) (reading.rest ++ more))
 
 abbrev pub ReadingGoesOn : Type 0

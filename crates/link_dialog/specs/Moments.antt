@@ -7,11 +7,11 @@ use Rattle.nntp_lines.specs.declared.why.Why.TheVariants.{Ended, Quiet}
 use Rattle.link_dialog.specs.declared.awaited.Awaited.{Awaited}
 use Rattle.link_dialog.specs.declared.awaited.Awaited.TheVariants.{Greeting}
 use Rattle.link_dialog.specs.Events.{quiets_at_end, has_ended, fine}
-use Rattle.link_dialog.specs.Reading.{Reading, reading_of}
+use Rattle.link_dialog.specs.Reading.{RepliesRead, reading_of}
 use Rattle.link_dialog.specs.Replies.{Reply, whole_reply, why_of_rest}
 
 -- the replies heard whole, the greeting first, the kinds still awaited, and the rest
-abbrev pub reading_at : (List ℕ → List Awaited) → List LinkEvent → Reading Awaited Reply
+abbrev pub reading_at : (List ℕ → List Awaited) → List LinkEvent → RepliesRead Awaited Reply
 reading_at asked moment = reading_of whole_reply (Greeting ∷ asked (sent moment)) (heard moment)
 
 -- The first reason that holds at a moment, in this order: the link ended; its last `patience` events are quiet receives;
@@ -42,11 +42,11 @@ replies_heard patience asked events = (reading_at asked (last_moment patience as
 -- ---- in steps
 
 -- a state of reading: these replies, these kinds awaited, this rest
-abbrev pub state_of : List Reply → List Awaited → List ℕ → Reading Awaited Reply
+abbrev pub state_of : List Reply → List Awaited → List ℕ → RepliesRead Awaited Reply
 state_of replies waiting rest = record { replies = replies; waiting = waiting; rest = rest }
 
 -- at this moment the link isn't over, and wasn't before; what was read so far
-pub record IsListening (patience : ℕ) (asked : List ℕ → List Awaited) (moment : List LinkEvent) (state : Reading Awaited Reply) : Type 0 where
+pub record IsListening (patience : ℕ) (asked : List ℕ → List Awaited) (moment : List LinkEvent) (state : RepliesRead Awaited Reply) : Type 0 where
   pub lived : lived_from (why_at patience asked) [] moment ≡ moment
   pub not_over : why_at patience asked moment ≡ None
   pub reading : reading_at asked moment ≡ state

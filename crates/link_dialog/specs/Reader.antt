@@ -11,7 +11,7 @@ abbrev pub held : Reader → List ℕ
 held reader = take reader.len reader.line
 
 -- the reader stands for a rest in which no line is whole
-pub record StandsFor (reader : Reader) (rest : List ℕ) : Type 0 where
+pub record HoldsRest (reader : Reader) (rest : List ℕ) : Type 0 where
   pub bytes : held reader ≡ rest
   pub unfinished : first_line rest ≡ None
 
@@ -23,7 +23,7 @@ pub record IsLine (kind : Awaited) (bytes : List ℕ) (code : ℕ) (reader : Rea
 
 -- what a step says, once these are the bytes since the last reply
 abbrev pub Says : Awaited → List ℕ → Step → Reader → Type 0
-Says kind bytes More reader = (whole_reply kind bytes ≡ None) × (why_of_rest (kind ∷ []) bytes ≡ None) × StandsFor reader bytes
+Says kind bytes More reader = (whole_reply kind bytes ≡ None) × (why_of_rest (kind ∷ []) bytes ≡ None) × HoldsRest reader bytes
 Says kind bytes (Line code) reader = IsLine kind bytes code reader
 Says kind bytes (Over reason) reader = (whole_reply kind bytes ≡ None) × (why_of_rest (kind ∷ []) bytes ≡ Some reason)
 

@@ -18,21 +18,21 @@ shortest_from whole before (byte ∷ after) =
     first_some (ends_here (whole before) (byte ∷ after)) (shortest_from whole (before ++ byte ∷ []) after)
 
 -- the replies that are whole, the kinds of those that are still awaited, and the bytes that belong to no whole reply
-pub record Reading (K R : Type 0) : Type 0 where
+pub record RepliesRead (K R : Type 0) : Type 0 where
   pub replies : List R
   pub waiting : List K
   pub rest : List ℕ
 
-abbrev pub with_replies : {K R : Type 0} → List R → Reading K R → Reading K R
+abbrev pub with_replies : {K R : Type 0} → List R → RepliesRead K R → RepliesRead K R
 with_replies replies reading = record { replies = replies ++ reading.replies; waiting = reading.waiting; rest = reading.rest }
 
 -- after a reply the rest is read on; without one all of it waits
-abbrev pub read_found : {K R : Type 0} → Option (R × List ℕ) → (List ℕ → Reading K R) → List K → List ℕ → Reading K R
+abbrev pub read_found : {K R : Type 0} → Option (R × List ℕ) → (List ℕ → RepliesRead K R) → List K → List ℕ → RepliesRead K R
 read_found (Some found) read_on kinds bytes = with_replies (found.0 ∷ []) (read_on found.1)
 read_found None read_on kinds bytes = record { replies = []; waiting = kinds; rest = bytes }
 
 -- one reply of each kind, in order, as many as are whole at the front of the bytes
-abbrev pub reading_of : {K R : Type 0} → (K → List ℕ → Option R) → List K → List ℕ → Reading K R
+abbrev pub reading_of : {K R : Type 0} → (K → List ℕ → Option R) → List K → List ℕ → RepliesRead K R
 reading_of whole [] bytes = record { replies = []; waiting = []; rest = bytes }
 reading_of whole (kind ∷ kinds) bytes =
     read_found (shortest_from (whole kind) [] bytes) (λ after. reading_of whole kinds after) (kind ∷ kinds) bytes

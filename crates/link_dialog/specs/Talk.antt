@@ -186,7 +186,7 @@ abbrev pub IsQuit : Start → Option (List LinkEvent) → Dialog → List Messag
 IsQuit start now dialog messages replies = Talked start now dialog.patience (messages ++ quit_message ∷ []) replies
 
 -- A message was said behind these, its reply has this code, and the dialog ends with QUIT: how a session ends at a refusal.
-pub record IsRefused (start : Start) (now : Option (List LinkEvent)) (patience : ℕ) (messages : List Message) (message : Message) (replies : List Reply) (code : ℕ) : Type 0 where
+pub record IsMessageRefused (start : Start) (now : Option (List LinkEvent)) (patience : ℕ) (messages : List Message) (message : Message) (replies : List Reply) (code : ℕ) : Type 0 where
   pub reply : Reply
   pub code_is : reply.code ≡ code
   pub talked : Talked start now patience ((messages ++ message ∷ []) ++ quit_message ∷ []) (replies ++ reply ∷ [])

@@ -30,12 +30,12 @@ pub(crate) struct BlockReader {
 }
 
 impl BlockReader {
-    ghost use Rattle.link_dialog.specs.BlockReader.{Steps, Begins, Grows};
+    ghost use Rattle.link_dialog.specs.BlockReader.{BlockSteps, BlockBegins, Grows};
 
     /// Stands before a block, behind a status line of so many bytes.
     pub(crate) fn new(line: usize) -> Self
         requires { line ≤ 512 }
-        ensures { Begins result line }
+        ensures { BlockBegins result line }
     {
         BlockReader {
             framer: Framer::new(),
@@ -54,7 +54,7 @@ impl BlockReader {
     /// Takes a piece of what is heard, up to the end of the block, and appends it, or drops all where there is no room.
     pub(crate) fn step(&mut self, piece: &[u8], block: &mut Bytes) -> BlockStep
         ensures grows { Grows self.old self.new piece.now result }
-        ensures steps { (heard : List ℕ) → Steps self.old block.old self.new block.new heard piece.now result }
+        ensures steps { (heard : List ℕ) → BlockSteps self.old block.old self.new block.new heard piece.now result }
     {
         let room = MOST_TEXT_BYTES as usize - self.heard;
         let front = &piece[..piece.len().min(room)];

@@ -1,7 +1,7 @@
 // One reply heard, by as many receives as it takes.
 ghost use Rattle.std.specs.Prelude.{◌≡◌, ◌≤◌, ◌<◌, [], ◌∷◌, Some, None, true, slice_get, length, take, OnOk, IfOk, MatchResult};
 ghost use Rattle.io_traits.specs.Links.{tell, heard_events, live_after_receive, GotFits, GotHasCause};
-ghost use Rattle.link_dialog.specs.Reader.{StandsFor};
+ghost use Rattle.link_dialog.specs.Reader.{HoldsRest};
 ghost use Rattle.link_dialog.specs.Hearing.{HeardTo, LineHeard};
 ghost use Rattle.link_dialog.specs.Talk.{KeepsLive, HasNoBlock};
 ghost use Rattle.link_dialog.specs.Heard.{IsAnswered, IsGroupAnswered, GroupKeepsLive};
@@ -44,7 +44,7 @@ pub(crate) fn hear_line<L: Links>(
     requires live { slice_get (L.live links.old) link ≡ Some true }
     requires patient { 0 < patience }
     requires room { 0 < length buf.old }
-    requires begins { StandsFor reader.old [] }
+    requires begins { HoldsRest reader.old [] }
     ensures faults { L.faults links.old ≤ L.faults links.new }
     ensures live { OnOk result (L.live links.new ≡ L.live links.old) }
     ensures some { IfOk result (λ end. 0 < end.used) }

@@ -26,11 +26,11 @@ pub struct Reader {
 }
 
 impl Reader {
-    ghost use Rattle.link_dialog.specs.Reader.{StandsFor, Says, GrowsAtMore, heard_len};
+    ghost use Rattle.link_dialog.specs.Reader.{HoldsRest, Says, GrowsAtMore, heard_len};
 
     /// Stands before a status line.
     pub fn new() -> Self
-        ensures { StandsFor result [] }
+        ensures { HoldsRest result [] }
     {
         Reader {
             line: [0; 512],
@@ -41,7 +41,7 @@ impl Reader {
     /// Takes the next byte of a status line where a reply of this kind is awaited.
     pub fn step(&mut self, kind: Awaited, byte: u8) -> Step
         ensures grows { GrowsAtMore (heard_len self.old) (heard_len self.new) result }
-        ensures says { (rest : List ℕ) → StandsFor self.old rest → Says kind (rest ++ byte ∷ []) result self.new }
+        ensures says { (rest : List ℕ) → HoldsRest self.old rest → Says kind (rest ++ byte ∷ []) result self.new }
     {
         let rest = &self.line[..self.len];
         if ends_line(rest, byte) {
@@ -85,7 +85,7 @@ pub struct Fed {
 }
 
 impl Reader {
-    ghost use Rattle.link_dialog.specs.Reader.{StandsFor, heard_len, GrowsAtPiece};
+    ghost use Rattle.link_dialog.specs.Reader.{HoldsRest, heard_len, GrowsAtPiece};
     ghost use Rattle.link_dialog.specs.Fed.{IsFed, IsRead, EndsAt};
     ghost use Rattle.link_dialog.specs.Replies.{Reply};
     ghost use Rattle.link_dialog.specs.Moments.{IsListening, state_of};
@@ -97,10 +97,10 @@ impl Reader {
         ensures some { 0 < length piece.now → 0 < result.used }
         ensures small { heard_len self.new < 512 }
         ensures grows { GrowsAtPiece (heard_len self.old) (heard_len self.new) (length piece.now) result.step }
-        ensures reads { (rest : List ℕ) → StandsFor self.old rest → IsRead kind rest piece.now result.used result.step self.new }
-        ensures ends { (rest : List ℕ) → StandsFor self.old rest → EndsAt kind rest piece.now result.used result.step }
+        ensures reads { (rest : List ℕ) → HoldsRest self.old rest → IsRead kind rest piece.now result.used result.step self.new }
+        ensures ends { (rest : List ℕ) → HoldsRest self.old rest → EndsAt kind rest piece.now result.used result.step }
         ensures fed { (patience link : ℕ) (asked : List ℕ → List Awaited) (moment : List LinkEvent) (replies : List Reply) (rest : List ℕ) →
-            0 < patience → StandsFor self.old rest → IsListening patience asked moment (state_of replies (kind ∷ []) rest) →
+            0 < patience → HoldsRest self.old rest → IsListening patience asked moment (state_of replies (kind ∷ []) rest) →
             IsFed patience link asked moment replies kind rest piece.now result.used result.step }
     {
         for i in 0..piece.len() {

@@ -6,7 +6,7 @@ use crate::post_fixtures::{
     D_INDEX, ONCE, REFUSED, SERVER, TAKEN, THRICE, post, post_from, post_words, session,
 };
 use io_memory::ScriptLinks;
-use row_fixtures::{ShrunkInput, no_links};
+use row_fixtures::{PartialInput, no_links};
 use std::process::Abort;
 
 #[test]
@@ -106,12 +106,12 @@ Subject: \"t\" yEnc (1/3)\r\nMessage-ID: <tok.1of3@example.org>\r\n\r\n\
 #[test]
 fn names_the_place_of_a_short_read(rt: HostRuntime) {
     let links = links_of(&rt, &TAKEN);
-    let ran = post_from(&rt, "d", &[], ShrunkInput::new(9, 4), links);
+    let ran = post_from(&rt, "d", &[], PartialInput::shrunk(9, 4), links);
     let links = ended_with(&rt, ran, 6, b"", "usebin: short 4\n");
     happened(&rt, links, &[]);
     let more = ["--part-size", "4"];
     let links = links_of(&rt, &TAKEN);
-    let ran = post_from(&rt, "d", &more, ShrunkInput::new(9, 6), links);
+    let ran = post_from(&rt, "d", &more, PartialInput::shrunk(9, 6), links);
     ended(&rt, ran, 6, b"", "usebin: short 6\n");
 }
 
@@ -129,7 +129,7 @@ fn names_the_limit_that_is_passed(rt: HostRuntime) {
     for (size, part_size, line) in rows {
         let links = links_of(&rt, &TAKEN);
         let more = ["--part-size", part_size];
-        let ran = post_from(&rt, "d", &more, ShrunkInput::new(size, 0), links);
+        let ran = post_from(&rt, "d", &more, PartialInput::shrunk(size, 0), links);
         let links = ended_with(&rt, ran, 6, b"", line);
         happened(&rt, links, &[]);
     }

@@ -1,11 +1,14 @@
 // The login of `post`, on the top call over objects in memory.
-use crate::fixtures::{Talk, ended, ended_with, files_of, happened, holding, holds, links_of};
+use crate::fixtures::{
+    Talk, ended, ended_with, files_of, happened, happened_behind, holding, holds, links_of,
+};
 use crate::post_fixtures::{
     D_BLOCK, D_INDEX, ONCE, SPOOL_TAKES, post, post_from, session, spool_of,
 };
 use io_traits::Links;
 use lists::Bytes;
-use row_fixtures::repeated;
+use news_spool::Spool;
+use row_fixtures::{are_events, repeated};
 use std::process::Abort;
 
 // The login of the server, where it has one.
@@ -26,6 +29,22 @@ fn refused<R: Abort + AllocGlobal>(rt: &R, login: &[u8], line: &str) {
     happened(rt, links, &[]);
 }
 
+// What happens up to the question for a password.
+const ASKED: [(u8, &[u8]); 4] = [
+    (b'O', b"127.0.0.1:1190"),
+    (b'H', b"200 ready\r\n"),
+    (b'S', b"AUTHINFO USER bob\r\n"),
+    (b'H', b"381 more\r\n"),
+];
+
+// Asserts that a password was asked for, and that this is all that happened behind the question.
+fn happened_when_asked<R: Abort>(rt: &R, spool: Spool, wanted: &[(u8, &[u8])]) {
+    let events = spool.events();
+    let (asked, _) = events.split_at(ASKED.len().min(events.len()));
+    assert!(rt; are_events(asked, &ASKED));
+    happened_behind(rt, ASKED.len(), spool, wanted);
+}
+
 #[test]
 fn logs_in_before_it_posts(rt: HostRuntime) {
     let spool = spool_of(&rt, LOGIN);
@@ -33,14 +52,10 @@ fn logs_in_before_it_posts(rt: HostRuntime) {
     let ran = post_with(&rt, file, spool);
     let spool = ended_with(&rt, ran, 0, D_INDEX, "");
     let spool = holding(&rt, spool, 1);
-    happened(
+    happened_when_asked(
         &rt,
         spool,
         &[
-            (b'O', b"127.0.0.1:1190"),
-            (b'H', b"200 ready\r\n"),
-            (b'S', b"AUTHINFO USER bob\r\n"),
-            (b'H', b"381 more\r\n"),
             (b'S', b"AUTHINFO PASS secret\r\n"),
             (b'H', b"281 in\r\n"),
             (b'S', b"POST\r\n"),
@@ -60,17 +75,10 @@ fn a_wrong_password_ends_the_link(rt: HostRuntime) {
     // The password isn't told.
     let spool = ended_with(&rt, ran, 9, b"", "usebin: link over login 481\n");
     let spool = holding(&rt, spool, 0);
-    happened(
+    happened_when_asked(
         &rt,
         spool,
-        &[
-            (b'O', b"127.0.0.1:1190"),
-            (b'H', b"200 ready\r\n"),
-            (b'S', b"AUTHINFO USER bob\r\n"),
-            (b'H', b"381 more\r\n"),
-            (b'S', b"AUTHINFO PASS no\r\n"),
-            (b'H', b"481 refused\r\n"),
-        ],
+        &[(b'S', b"AUTHINFO PASS no\r\n"), (b'H', b"481 refused\r\n")],
     );
 }
 

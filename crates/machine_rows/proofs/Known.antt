@@ -1,7 +1,8 @@
 -- What a trial knows of its core stays true after each call.
-use Rattle.std.proofs.Common.{◌≡◌, ◌≢◌, ◌<◌, ◌≤◌, ◌⊎◌, inl, inr, zero, suc, ℕ, Bool, true, false, List, [], ◌∷◌, Option, Some, None, length, refl, ap, sym, ◌∙◌, arith, set, map, replicate}
+use Rattle.std.proofs.Common.{◌≡◌, ◌≢◌, ◌<◌, ◌≤◌, inl, inr, zero, suc, ℕ, Bool, true, false, List, [], ◌∷◌, Option, Some, None, length, refl, ap, sym, ◌∙◌, arith, set, map, replicate}
 use Rattle.std.proofs.Math.ListN.{length-replicate}
 use Rattle.std.specs.Prelude.{slice_get, slice_index_or}
+use Rattle.std.proofs.lemmas.Bool.{cases_eq}
 use Rattle.lists.specs.Edit.{edit_at}
 use Rattle.pipeline_core.specs.LinkAt.{LinkAt}
 use Rattle.pipeline_core.specs.Links.{holder, fresh_link, with_greeting, with_asked, without_oldest, with_end}
@@ -46,12 +47,6 @@ mark_here : (marks : List Bool) (i : ℕ) → i < length marks → slice_index_o
 mark_here [] i below = absurd (omega arith)
 mark_here (mark ∷ marks) zero below = refl
 mark_here (mark ∷ marks) (suc i) below = mark_here marks i (omega arith)
-
-same_or_not : (k i : ℕ) → (k ≡ i) ⊎ (k ≢ i)
-same_or_not zero zero = inl refl
-same_or_not zero (suc i) = inr (λ e. absurd (omega (arith, e)))
-same_or_not (suc k) zero = inr (λ e. absurd (omega (arith, e)))
-same_or_not (suc k) (suc i) = elim (same_or_not k i) [ inl e ↦ inl (ap (λ n. suc n) e) | inr other ↦ inr (λ e. other (omega (arith, e))) ]
 
 pub record Known (p : Pipeline) (over : List Bool) (links segments : ℕ) : Type 0 where
   pub few : links ≤ 64
@@ -107,7 +102,7 @@ known-over p over links segments i inside marked known = record {
   few = known.few;
   as_many = length-edit p.links i with_end ∙ known.as_many;
   parts = known.parts;
-  ends = λ k. elim (same_or_not k i) [
+  ends = λ k. elim (cases_eq k i) [
     | inl e ↦ ap (λ n. is_over_on (after_over p i) n) e ∙ over_here p.links i (omega (arith, known.as_many)) ∙ sym (ap (λ n. slice_index_or (set over i true) n false) e ∙ mark_here over i marked)
     | inr other ↦ over_other p.links i k with_end other ∙ known.ends k ∙ sym (mark_other over i k other)
   ];

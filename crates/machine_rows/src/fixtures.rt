@@ -1,5 +1,17 @@
 // Calls that are made where their conditions hold.
+ghost use Rattle.std.specs.Prelude.{◌≤◌, length, sum};
+ghost use Rattle.limits.specs.declared.TheConstants.{MOST_FILES, MOST_SEGMENTS};
+
 use range_assembler::{Assembler, Clash, Hold, OtherSize};
+use std::process::Abort;
+
+/// Files of so many parts, of which none has a range.
+pub(crate) fn assembler_of<R: Abort + AllocGlobal>(rt: &R, parts: &[u32]) -> Assembler
+    requires files { length parts.now ≤ MOST_FILES }
+    requires segments { sum parts.now ≤ MOST_SEGMENTS }
+{
+    Assembler::new(rt.alloc(), parts).expect(rt, "an assembler")
+}
 
 /// What `claim` answers, or nothing where the segment has a range or the range is none.
 pub(crate) fn claim(

@@ -1,7 +1,7 @@
 // The same calls on plain lists, as a reader of the rules would write them.
 use pipeline_core::{Outcome, SegmentState};
 use std::alloc::Global;
-use std::test::Fail;
+use std::process::Abort;
 
 /// What was asked for and not answered, in order, as links and segments; and what is known of links and segments.
 #[derive(Drop)]
@@ -133,10 +133,16 @@ impl Plain {
         true
     }
 
-    pub(crate) fn ask(&mut self, link: u32, links: u32, servers: u32) -> Result<Option<u32>, Fail> {
+    pub(crate) fn ask<R: Abort>(
+        &mut self,
+        rt: &R,
+        link: u32,
+        links: u32,
+        servers: u32,
+    ) -> Option<u32> {
         let may = is_marked(&self.greeted, link) && !is_marked(&self.over, link);
         if !may || self.outstanding(link) >= self.depth {
-            return Ok(None);
+            return None;
         }
         let server = self.server(link);
         for segment in 0..self.segments {
@@ -144,11 +150,11 @@ impl Plain {
                 && !is_marked(&self.answered, place(segment, server))
                 && self.is_turn(server, segment, links, servers)
             {
-                self.asked.push((link, segment))?;
-                return Ok(Some(segment));
+                self.asked.push((link, segment)).expect(rt, "an entry");
+                return Some(segment);
             }
         }
-        Ok(None)
+        None
     }
 
     // Takes the first entry of this link away.

@@ -1,7 +1,7 @@
 // Calls at random, and a plain program that has a mark for each offset.
-use crate::fixtures::{accept, claim, release};
+use crate::fixtures::{accept, assembler_of, claim, release};
 use range_assembler::{Assembler, Clash, OtherSize};
-use std::test::Fail;
+use std::process::Abort;
 
 const OFFSETS: usize = 64;
 
@@ -159,30 +159,53 @@ fn shows(assembler: &Assembler, marks: &Marks) -> bool {
     good
 }
 
-#[test]
-fn calls_at_random_agree_with_marks(rt: HostRuntime) -> Result<(), Fail> {
-    let mut seed: u64 = 88172645463325252;
-    for round in 0..500u32 {
-        let mut assembler = Assembler::new(rt.alloc(), &[SEGMENTS as u32])?;
-        let mut marks = Marks {
+// An assembler of one file, and its marks.
+#[derive(Drop)]
+struct Pair {
+    assembler: Assembler,
+    marks: Marks,
+}
+
+// Asserts that a call agrees with the marks, and what is shown behind it.
+fn agrees<R: Abort>(rt: &R, mut pair: Pair, seed: u64) -> Pair {
+    assert!(rt;
+        step(&mut pair.assembler, &mut pair.marks, seed),
+        "at seed {seed}"
+    );
+    assert!(rt; shows(&pair.assembler, &pair.marks), "behind seed {seed}");
+    pair
+}
+
+// Asserts that the accepted parts are those of the marks.
+fn ends<R: Abort>(rt: &R, pair: Pair) {
+    for k in 0..SEGMENTS {
+        assert_eq!(rt; pair.assembler.accepted(0, k), accepted_of(&pair.marks, k));
+    }
+}
+
+// Asserts that 60 calls agree with marks, and answers the last one's seed.
+fn round<R: Abort + AllocGlobal>(rt: &R, before: u64) -> u64 {
+    let mut pair = Pair {
+        assembler: assembler_of(rt, &[SEGMENTS as u32]),
+        marks: Marks {
             holder: [NOBODY; 66],
             accepted: [false; 66],
             size: None,
-        };
-        for call in 0..60u32 {
-            seed = next(seed);
-            assert!(rt;
-                step(&mut assembler, &mut marks, seed),
-                "round {round}, call {call}"
-            );
-            assert!(rt;
-                shows(&assembler, &marks),
-                "round {round}, after call {call}"
-            );
-        }
-        for k in 0..SEGMENTS {
-            assert_eq!(rt; assembler.accepted(0, k), accepted_of(&marks, k));
-        }
+        },
+    };
+    let mut seed = before;
+    for _ in 0..60u32 {
+        seed = next(seed);
+        pair = agrees(rt, pair, seed);
     }
-    Ok(())
+    ends(rt, pair);
+    seed
+}
+
+#[test]
+fn calls_at_random_agree_with_marks(rt: HostRuntime) {
+    let mut seed: u64 = 88172645463325252;
+    for _ in 0..500u32 {
+        seed = round(&rt, seed);
+    }
 }

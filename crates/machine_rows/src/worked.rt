@@ -1,119 +1,186 @@
 // Which segment is asked for where, call by call.
 use crate::trial::Trial;
 use pipeline_core::{Outcome, SegmentState};
-use std::test::Fail;
+use std::process::Abort;
 
-#[test]
-fn asks_a_fallback_once_the_first_server_answered(rt: HostRuntime) -> Result<(), Fail> {
-    let mut trial = Trial::new(rt.alloc(), &[0, 1], &[0, 1], 2, 2).ok_or("no trial")?;
-    trial.greet(0);
-    trial.greet(1);
-    assert_eq!(rt; trial.ask(1), None);
-    assert_eq!(rt; trial.ask(0), Some(0));
-    assert_eq!(rt; trial.ask(1), None);
-    assert_eq!(rt; trial.ask(0), Some(1));
-    assert_eq!(rt; trial.answer(0, Outcome::NotHere), Some(0));
-    assert_eq!(rt; trial.ask(0), None);
-    assert_eq!(rt; trial.ask(1), Some(0));
-    assert_eq!(rt; trial.ask(1), None);
-    assert_eq!(rt; trial.answer(0, Outcome::Arrived), Some(1));
-    assert_eq!(rt; trial.ask(1), None);
-    assert_eq!(rt; trial.answer(1, Outcome::NotHere), Some(0));
-    assert_eq!(rt; trial.state(0), Some(SegmentState::Exhausted));
-    assert!(rt; trial.finished());
-    Ok(())
+// A call, with what it was handed and what it has to answer. Links and segments are counted from 0.
+#[derive(Clone, Copy)]
+enum Call {
+    Greet(u32),
+    Ask(u32, Option<u32>),
+    Arrived(u32, u32),
+    NotHere(u32, u32),
+    Lose(u32),
+    Settle(u32),
+    IsGreeted(u32, bool),
+    IsOver(u32, bool),
+    Outstanding(u32, u32),
+    Oldest(u32, Option<u32>),
+    State(u32, SegmentState),
+    Finished(bool),
+}
+
+// Whether a call is answered so.
+fn answers(trial: &mut Trial, call: Call) -> bool {
+    match call {
+        Call::Ask(link, wanted) => trial.ask(link) == wanted,
+        Call::Arrived(link, segment) => trial.answer(link, Outcome::Arrived) == Some(segment),
+        Call::NotHere(link, segment) => trial.answer(link, Outcome::NotHere) == Some(segment),
+        Call::Greet(link) => {
+            trial.greet(link);
+            true
+        }
+        Call::Lose(link) => {
+            trial.lose(link);
+            true
+        }
+        Call::Settle(segment) => {
+            trial.settle(segment);
+            true
+        }
+        _ => shows(trial, call),
+    }
+}
+
+// Whether what is shown is that.
+fn shows(trial: &Trial, call: Call) -> bool {
+    match call {
+        Call::IsGreeted(link, wanted) => trial.is_greeted(link) == wanted,
+        Call::IsOver(link, wanted) => trial.is_over(link) == wanted,
+        Call::Outstanding(link, wanted) => trial.outstanding(link) == wanted,
+        Call::Oldest(link, wanted) => trial.oldest(link) == wanted,
+        Call::State(segment, wanted) => trial.state(segment) == Some(wanted),
+        Call::Finished(wanted) => trial.finished() == wanted,
+        _ => false,
+    }
+}
+
+// Asserts what calls answer, one behind the other.
+fn follows<R: Abort>(rt: &R, trial: Option<Trial>, calls: &[Call]) {
+    let mut trial = trial.expect(rt, "a trial");
+    let mut number: u32 = 0;
+    for call in calls {
+        assert!(rt; answers(&mut trial, *call), "call {number}, from 0");
+        number = number.saturating_add(1);
+    }
 }
 
 #[test]
-fn asks_a_fallback_once_the_last_link_of_the_first_server_is_over(
-    rt: HostRuntime,
-) -> Result<(), Fail> {
-    let mut trial = Trial::new(rt.alloc(), &[0, 0, 1], &[0, 1], 3, 1).ok_or("no trial")?;
-    trial.greet(0);
-    trial.greet(2);
-    assert_eq!(rt; trial.ask(0), Some(0));
-    trial.lose(0);
-    assert_eq!(rt; trial.ask(2), None);
-    trial.lose(1);
-    assert_eq!(rt; trial.ask(2), Some(0));
-    assert_eq!(rt; trial.answer(2, Outcome::Arrived), Some(0));
-    assert_eq!(rt; trial.ask(2), Some(1));
-    Ok(())
+fn asks_a_fallback_once_the_first_server_answered(rt: HostRuntime) {
+    let calls = [
+        Call::Greet(0),
+        Call::Greet(1),
+        Call::Ask(1, None),
+        Call::Ask(0, Some(0)),
+        Call::Ask(1, None),
+        Call::Ask(0, Some(1)),
+        Call::NotHere(0, 0),
+        Call::Ask(0, None),
+        Call::Ask(1, Some(0)),
+        Call::Ask(1, None),
+        Call::Arrived(0, 1),
+        Call::Ask(1, None),
+        Call::NotHere(1, 0),
+        Call::State(0, SegmentState::Exhausted),
+        Call::Finished(true),
+    ];
+    follows(&rt, Trial::new(rt.alloc(), &[0, 1], &[0, 1], 2, 2), &calls);
 }
 
 #[test]
-fn asks_no_more_than_the_depth(rt: HostRuntime) -> Result<(), Fail> {
-    let mut trial = Trial::new(rt.alloc(), &[0, 0], &[0], 6, 2).ok_or("no trial")?;
-    assert_eq!(rt; trial.ask(0), None);
-    trial.greet(0);
-    trial.greet(1);
-    assert_eq!(rt; trial.ask(0), Some(0));
-    assert_eq!(rt; trial.ask(0), Some(1));
-    assert_eq!(rt; trial.ask(0), None);
-    assert_eq!(rt; trial.outstanding(0), 2);
-    assert_eq!(rt; trial.ask(1), Some(2));
-    assert_eq!(rt; trial.outstanding(1), 1);
-    Ok(())
+fn asks_a_fallback_once_the_last_link_of_the_first_server_is_over(rt: HostRuntime) {
+    let calls = [
+        Call::Greet(0),
+        Call::Greet(2),
+        Call::Ask(0, Some(0)),
+        Call::Lose(0),
+        Call::Ask(2, None),
+        Call::Lose(1),
+        Call::Ask(2, Some(0)),
+        Call::Arrived(2, 0),
+        Call::Ask(2, Some(1)),
+    ];
+    let trial = Trial::new(rt.alloc(), &[0, 0, 1], &[0, 1], 3, 1);
+    follows(&rt, trial, &calls);
 }
 
 #[test]
-fn answers_the_oldest(rt: HostRuntime) -> Result<(), Fail> {
-    let mut trial = Trial::new(rt.alloc(), &[0], &[0], 4, 2).ok_or("no trial")?;
-    trial.greet(0);
-    assert_eq!(rt; trial.ask(0), Some(0));
-    assert_eq!(rt; trial.ask(0), Some(1));
-    assert_eq!(rt; trial.oldest(0), Some(0));
-    assert_eq!(rt; trial.answer(0, Outcome::Arrived), Some(0));
-    assert_eq!(rt; trial.state(0), Some(SegmentState::Arrived));
-    assert_eq!(rt; trial.ask(0), Some(2));
-    assert_eq!(rt; trial.answer(0, Outcome::NotHere), Some(1));
-    assert_eq!(rt; trial.state(1), Some(SegmentState::Exhausted));
-    assert_eq!(rt; trial.answer(0, Outcome::Arrived), Some(2));
-    assert_eq!(rt; trial.oldest(0), None);
-    assert!(rt; !trial.finished());
-    Ok(())
+fn asks_no_more_than_the_depth(rt: HostRuntime) {
+    let calls = [
+        Call::Ask(0, None),
+        Call::Greet(0),
+        Call::Greet(1),
+        Call::Ask(0, Some(0)),
+        Call::Ask(0, Some(1)),
+        Call::Ask(0, None),
+        Call::Outstanding(0, 2),
+        Call::Ask(1, Some(2)),
+        Call::Outstanding(1, 1),
+    ];
+    follows(&rt, Trial::new(rt.alloc(), &[0, 0], &[0], 6, 2), &calls);
 }
 
 #[test]
-fn gives_back_what_a_lost_link_held(rt: HostRuntime) -> Result<(), Fail> {
-    let mut trial = Trial::new(rt.alloc(), &[0, 0], &[0], 3, 2).ok_or("no trial")?;
-    trial.greet(0);
-    trial.greet(1);
-    assert_eq!(rt; trial.ask(0), Some(0));
-    assert_eq!(rt; trial.ask(0), Some(1));
-    assert_eq!(rt; trial.ask(1), Some(2));
-    assert_eq!(rt; trial.state(1), Some(SegmentState::Outstanding(0)));
-    trial.lose(0);
-    assert_eq!(rt; trial.state(1), Some(SegmentState::Open));
-    assert_eq!(rt; trial.outstanding(0), 0);
-    assert_eq!(rt; trial.ask(0), None);
-    assert_eq!(rt; trial.ask(1), Some(0));
-    trial.lose(1);
-    assert_eq!(rt; trial.state(2), Some(SegmentState::Exhausted));
-    assert!(rt; trial.finished());
-    Ok(())
+fn answers_the_oldest(rt: HostRuntime) {
+    let calls = [
+        Call::Greet(0),
+        Call::Ask(0, Some(0)),
+        Call::Ask(0, Some(1)),
+        Call::Oldest(0, Some(0)),
+        Call::Arrived(0, 0),
+        Call::State(0, SegmentState::Arrived),
+        Call::Ask(0, Some(2)),
+        Call::NotHere(0, 1),
+        Call::State(1, SegmentState::Exhausted),
+        Call::Arrived(0, 2),
+        Call::Oldest(0, None),
+        Call::Finished(false),
+    ];
+    follows(&rt, Trial::new(rt.alloc(), &[0], &[0], 4, 2), &calls);
 }
 
 #[test]
-fn asks_for_none_that_has_arrived_already(rt: HostRuntime) -> Result<(), Fail> {
-    let mut trial = Trial::new(rt.alloc(), &[0, 1], &[0, 1], 4, 3).ok_or("no trial")?;
-    trial.settle(3);
-    trial.settle(0);
-    trial.settle(1);
-    assert_eq!(rt; trial.state(0), Some(SegmentState::Arrived));
-    assert_eq!(rt; trial.state(2), Some(SegmentState::Open));
-    assert!(rt; !trial.is_greeted(0));
-    trial.greet(0);
-    trial.greet(1);
-    assert!(rt; trial.is_greeted(0));
-    assert_eq!(rt; trial.ask(0), Some(2));
-    assert_eq!(rt; trial.ask(0), None);
-    assert_eq!(rt; trial.answer(0, Outcome::NotHere), Some(2));
-    assert_eq!(rt; trial.ask(1), Some(2));
-    assert_eq!(rt; trial.ask(1), None);
-    trial.lose(0);
-    assert!(rt; trial.is_over(0));
-    assert_eq!(rt; trial.answer(1, Outcome::Arrived), Some(2));
-    assert!(rt; trial.finished());
-    Ok(())
+fn gives_back_what_a_lost_link_held(rt: HostRuntime) {
+    let calls = [
+        Call::Greet(0),
+        Call::Greet(1),
+        Call::Ask(0, Some(0)),
+        Call::Ask(0, Some(1)),
+        Call::Ask(1, Some(2)),
+        Call::State(1, SegmentState::Outstanding(0)),
+        Call::Lose(0),
+        Call::State(1, SegmentState::Open),
+        Call::Outstanding(0, 0),
+        Call::Ask(0, None),
+        Call::Ask(1, Some(0)),
+        Call::Lose(1),
+        Call::State(2, SegmentState::Exhausted),
+        Call::Finished(true),
+    ];
+    follows(&rt, Trial::new(rt.alloc(), &[0, 0], &[0], 3, 2), &calls);
+}
+
+#[test]
+fn asks_for_none_that_has_arrived_already(rt: HostRuntime) {
+    let calls = [
+        Call::Settle(3),
+        Call::Settle(0),
+        Call::Settle(1),
+        Call::State(0, SegmentState::Arrived),
+        Call::State(2, SegmentState::Open),
+        Call::IsGreeted(0, false),
+        Call::Greet(0),
+        Call::Greet(1),
+        Call::IsGreeted(0, true),
+        Call::Ask(0, Some(2)),
+        Call::Ask(0, None),
+        Call::NotHere(0, 2),
+        Call::Ask(1, Some(2)),
+        Call::Ask(1, None),
+        Call::Lose(0),
+        Call::IsOver(0, true),
+        Call::Arrived(1, 2),
+        Call::Finished(true),
+    ];
+    follows(&rt, Trial::new(rt.alloc(), &[0, 1], &[0, 1], 4, 3), &calls);
 }

@@ -6,8 +6,6 @@ mod blocks;
 #[cfg(test)]
 mod dialog_fixtures;
 #[cfg(test)]
-mod fixtures;
-#[cfg(test)]
 mod heads;
 #[cfg(test)]
 mod logins;

@@ -1,7 +1,7 @@
 // Where news servers are, and the logins there.
+use nntp_lines::Login;
 use server_logins::{LoginError, Logins, is_server, read_logins};
-use std::alloc::Global;
-use std::test::Fail;
+use std::process::Abort;
 
 #[test]
 fn servers_are_a_host_and_a_port(rt: HostRuntime) {
@@ -45,49 +45,63 @@ fn a_host_has_at_most_253_characters(rt: HostRuntime) {
     assert!(rt; !is_server(&text));
 }
 
-// Whether a server has the login of this user and password, or none.
-fn logs_in(logins: &Logins, server: &[u8], wanted: Option<(&[u8], &[u8])>) -> bool {
-    match (logins.login_for(server), wanted) {
+// The logins of a text.
+fn logins_of<R: Abort + AllocGlobal>(rt: &R, text: &[u8]) -> Logins {
+    match read_logins(rt.alloc(), text) {
+        Ok(logins) => logins,
+        Err(_) => rt.panic("the lines have logins"),
+    }
+}
+
+// Asserts that a server has the login of this user and password, or none, and gives the logins back.
+fn logs_in<R: Abort>(
+    rt: &R,
+    logins: Logins,
+    server: &[u8],
+    wanted: Option<(&[u8], &[u8])>,
+) -> Logins {
+    let is_wanted = match (logins.login_for(server), wanted) {
         (Some(login), Some((user, pass))) => {
             login.user.as_slice() == user && login.pass.as_slice() == pass
         }
         (None, None) => true,
         _ => false,
-    }
-}
-
-#[test]
-fn a_server_has_the_login_of_its_line(rt: HostRuntime) -> Result<(), Fail> {
-    let text = b"a:119 bob secret\r\n\n\r\nb.example:1190 eve !~\nA:119 bob x";
-    let Ok(logins) = read_logins(rt.alloc(), text) else {
-        return Err("the lines have logins".into());
     };
-    assert!(rt; logs_in(&logins, b"a:119", Some((b"bob", b"secret"))));
-    assert!(rt; logs_in(&logins, b"b.example:1190", Some((b"eve", b"!~"))));
-    assert!(rt; logs_in(&logins, b"A:119", Some((b"bob", b"x"))));
-    assert!(rt; logs_in(&logins, b"a:1190", None));
-    assert!(rt; logs_in(&logins, b"b.example:119", None));
-    assert!(rt; logs_in(&logins, b"", None));
-    Ok(())
+    assert!(rt; is_wanted, "{server:?}");
+    logins
 }
 
 #[test]
-fn a_text_without_lines_has_no_login(rt: HostRuntime) -> Result<(), Fail> {
-    for text in [b"".as_slice(), b"\n", b"\r\n\n"] {
-        match read_logins(rt.alloc(), text) {
-            Ok(logins) => assert!(rt; logs_in(&logins, b"a:119", None)),
-            Err(_) => return Err("empty lines are passed over".into()),
-        }
+fn a_server_has_the_login_of_its_line(rt: HostRuntime) {
+    let rows: [(&[u8], Option<(&[u8], &[u8])>); 6] = [
+        (b"a:119", Some((b"bob", b"secret"))),
+        (b"b.example:1190", Some((b"eve", b"!~"))),
+        (b"A:119", Some((b"bob", b"x"))),
+        (b"a:1190", None),
+        (b"b.example:119", None),
+        (b"", None),
+    ];
+    let text = b"a:119 bob secret\r\n\n\r\nb.example:1190 eve !~\nA:119 bob x";
+    let mut logins = logins_of(&rt, text);
+    for (server, wanted) in rows {
+        logins = logs_in(&rt, logins, server, wanted);
     }
-    Ok(())
 }
 
-// The number of the first line that breaks a rule.
-fn broken_line(alloc: Global, text: &[u8]) -> Option<u64> {
-    match read_logins(alloc, text) {
+#[test]
+fn a_text_without_lines_has_no_login(rt: HostRuntime) {
+    for text in [b"".as_slice(), b"\n", b"\r\n\n"] {
+        let _logins = logs_in(&rt, logins_of(&rt, text), b"a:119", None);
+    }
+}
+
+// Asserts which line is the first that breaks a rule, if one is.
+fn breaks<R: Abort + AllocGlobal>(rt: &R, text: &[u8], wanted: Option<u64>) {
+    let number = match read_logins(rt.alloc(), text) {
         Err(LoginError::Broken(number)) => Some(number),
         _ => None,
-    }
+    };
+    assert!(rt; number == wanted, "{text:?}");
 }
 
 #[test]
@@ -113,7 +127,7 @@ fn the_first_line_that_breaks_a_rule_is_told(rt: HostRuntime) {
         (b"a:119 bob secret\n\nb:119 eve x\na:119 eve x\nx", Some(4)),
     ];
     for (text, wanted) in rows {
-        assert_eq!(rt; broken_line(rt.alloc(), text), wanted, "{text:?}");
+        breaks(&rt, text, wanted);
     }
 }
 
@@ -122,22 +136,23 @@ fn the_first_line_that_breaks_a_rule_is_told(rt: HostRuntime) {
 fn a_password_of_201_bytes_is_refused(rt: HostRuntime) {
     let mut text = [b'p'; 209];
     text[..8].copy_from_slice(b"a:1 bob ");
-    assert_eq!(rt; broken_line(rt.alloc(), &text[..208]), None);
-    assert_eq!(rt; broken_line(rt.alloc(), &text), Some(1));
+    breaks(&rt, &text[..208], None);
+    breaks(&rt, &text, Some(1));
 }
 
 #[test]
-fn a_password_is_not_printed(rt: HostRuntime) -> Result<(), Fail> {
-    let Ok(logins) = read_logins(rt.alloc(), b"a:119 bob secret") else {
-        return Err("the line has a login".into());
-    };
-    let Some(login) = logins.login_for(b"a:119") else {
-        return Err("the server has a login".into());
-    };
-    let text = format!(in rt.alloc(); "{login:?}")?;
-    assert_eq!(rt;
-        text.as_str(),
-        "Login { user: LoginWord(..), pass: LoginWord(..) }"
+fn a_password_is_not_printed(rt: HostRuntime) {
+    let logins = logins_of(&rt, b"a:119 bob secret");
+    prints(
+        &rt,
+        logins.login_for(b"a:119"),
+        "Login { user: LoginWord(..), pass: LoginWord(..) }",
     );
-    Ok(())
+}
+
+// Asserts how a login is printed.
+fn prints<R: Abort + AllocGlobal>(rt: &R, login: Option<&Login>, wanted: &str) {
+    let login = login.expect(rt, "a login");
+    let text = format!(in rt.alloc(); "{login:?}").expect(rt, "a text");
+    assert!(rt; text.as_str() == wanted);
 }

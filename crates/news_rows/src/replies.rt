@@ -1,8 +1,10 @@
 // What is said to a news server, and the code of what it answers.
+ghost use Rattle.nntp_lines.specs.Command.{HasArticleNumbers};
+
 use nntp_lines::{
     Command, GroupName, LoginWord, MessageId, StatusFault, read_status, write_command,
 };
-use std::test::Fail;
+use std::process::Abort;
 
 #[test]
 fn a_status_line_gives_its_code(rt: HostRuntime) {
@@ -35,112 +37,136 @@ fn a_status_line_has_510_bytes_at_most(rt: HostRuntime) {
     assert_eq!(rt; read_status(&no_code), Err(StatusFault::TooLong));
 }
 
-#[test]
-fn message_ids_keep_to_their_rule(rt: HostRuntime) -> Result<(), Fail> {
-    let longest = [b'~'; 248];
-    for inner in [b"a@b".as_slice(), b"!", b"a<b@c", &longest] {
-        let id = MessageId::new(inner).ok_or("a message-id")?;
-        assert_eq!(rt; id.as_slice(), inner);
+// Asserts whether this is a message-id, and that it has these bytes.
+fn is_id<R: Abort>(rt: &R, inner: &[u8], wanted: bool) {
+    match MessageId::new(inner) {
+        Some(id) => assert!(rt; wanted && id.as_slice() == inner, "{inner:?}"),
+        None => assert!(rt; !wanted, "{inner:?}"),
     }
-    let too_long = [b'a'; 249];
-    for inner in [
-        b"".as_slice(),
-        b"a>b",
-        b"<a@b>",
-        b"a b",
-        b"a\tb",
-        b"a\r\nb",
-        b"a\x7fb",
-        b"\xc3\xa4@b",
-        &too_long,
-    ] {
-        assert!(rt; MessageId::new(inner).is_none());
-    }
-    Ok(())
 }
 
 #[test]
-fn group_names_keep_to_their_rule(rt: HostRuntime) -> Result<(), Fail> {
-    let longest = [b'z'; 200];
-    for name in [
-        b"alt.binaries.test".as_slice(),
-        b"A-Z_a-z+0.9",
-        b"7",
-        &longest,
-    ] {
-        let group = GroupName::new(name).ok_or("a newsgroup")?;
-        assert_eq!(rt; group.as_slice(), name);
-    }
-    let too_long = [b'a'; 201];
-    for name in [
-        b"".as_slice(),
-        b"alt.test,misc.test",
-        b"alt test",
-        b"alt.*",
-        b"alt.test\r\nQUIT",
-        b"alt/test",
-        b"alt:test",
-        b"alt@test",
-        b"alt[test",
-        b"alt`test",
-        b"alt{test",
-        &too_long,
-    ] {
-        assert!(rt; GroupName::new(name).is_none());
-    }
-    Ok(())
-}
-
-#[test]
-fn login_words_keep_to_their_rule_and_are_not_shown(rt: HostRuntime) -> Result<(), Fail> {
-    let longest = [b'~'; 200];
-    for bytes in [b"bob".as_slice(), b"!<>\"~", &longest] {
-        let word = LoginWord::new(bytes).ok_or("a word")?;
-        assert_eq!(rt; word.as_slice(), bytes);
-        let shown = format!(in rt.alloc(); "{word:?}")?;
-        assert_eq!(rt; shown.as_bytes(), b"LoginWord(..)".as_slice());
-    }
-    let too_long = [b'a'; 201];
-    for bytes in [
-        b"".as_slice(),
-        b"a b",
-        b"a\0b",
-        b"a\r\nb",
-        b"a\x7f",
-        &too_long,
-    ] {
-        assert!(rt; LoginWord::new(bytes).is_none());
-    }
-    Ok(())
-}
-
-#[test]
-fn each_command_has_its_text(rt: HostRuntime) -> Result<(), Fail> {
-    let id = MessageId::new(b"tok.1of1@example.org").ok_or("a message-id")?;
-    let group = GroupName::new(b"alt.binaries.test").ok_or("a newsgroup")?;
-    let user = LoginWord::new(b"bob").ok_or("a word")?;
-    let password = LoginWord::new(b"secret").ok_or("a word")?;
-    let rows: [(Command<'_>, &[u8]); 8] = [
-        (Command::Body(&id), b"BODY <tok.1of1@example.org>\r\n"),
-        (Command::Stat(&id), b"STAT <tok.1of1@example.org>\r\n"),
-        (Command::Group(&group), b"GROUP alt.binaries.test\r\n"),
-        (
-            Command::Over {
-                first: 1,
-                last: 9_999_999_999_999_999,
-            },
-            b"OVER 1-9999999999999999\r\n",
-        ),
-        (Command::Post, b"POST\r\n"),
-        (Command::Quit, b"QUIT\r\n"),
-        (Command::User(&user), b"AUTHINFO USER bob\r\n"),
-        (Command::Pass(&password), b"AUTHINFO PASS secret\r\n"),
+fn message_ids_keep_to_their_rule(rt: HostRuntime) {
+    let rows: [(&[u8], bool); 13] = [
+        (b"a@b", true),
+        (b"!", true),
+        (b"a<b@c", true),
+        (&[b'~'; 248], true),
+        (b"", false),
+        (b"a>b", false),
+        (b"<a@b>", false),
+        (b"a b", false),
+        (b"a\tb", false),
+        (b"a\r\nb", false),
+        (b"a\x7fb", false),
+        (b"\xc3\xa4@b", false),
+        (&[b'a'; 249], false),
     ];
-    let mut out = [0; 512];
-    for (command, text) in rows {
-        let len = write_command(command, &mut out);
-        assert!(rt; len <= 512);
-        assert_eq!(rt; &out[..len], text);
+    for (inner, wanted) in rows {
+        is_id(&rt, inner, wanted);
     }
-    Ok(())
+}
+
+// Asserts whether this is the name of a newsgroup, and that it has these bytes.
+fn is_group<R: Abort>(rt: &R, name: &[u8], wanted: bool) {
+    match GroupName::new(name) {
+        Some(group) => assert!(rt; wanted && group.as_slice() == name, "{name:?}"),
+        None => assert!(rt; !wanted, "{name:?}"),
+    }
+}
+
+#[test]
+fn group_names_keep_to_their_rule(rt: HostRuntime) {
+    let rows: [(&[u8], bool); 16] = [
+        (b"alt.binaries.test", true),
+        (b"A-Z_a-z+0.9", true),
+        (b"7", true),
+        (&[b'z'; 200], true),
+        (b"", false),
+        (b"alt.test,misc.test", false),
+        (b"alt test", false),
+        (b"alt.*", false),
+        (b"alt.test\r\nQUIT", false),
+        (b"alt/test", false),
+        (b"alt:test", false),
+        (b"alt@test", false),
+        (b"alt[test", false),
+        (b"alt`test", false),
+        (b"alt{test", false),
+        (&[b'a'; 201], false),
+    ];
+    for (name, wanted) in rows {
+        is_group(&rt, name, wanted);
+    }
+}
+
+// Asserts whether this is a word of a login, that it has these bytes, and that it isn't shown.
+fn is_login_word<R: Abort + AllocGlobal>(rt: &R, bytes: &[u8], wanted: bool) {
+    match LoginWord::new(bytes) {
+        Some(word) => {
+            assert!(rt; wanted && word.as_slice() == bytes, "{bytes:?}");
+            let shown = format!(in rt.alloc(); "{word:?}").expect(rt, "a text");
+            assert!(rt; shown.as_bytes() == b"LoginWord(..)".as_slice());
+        }
+        None => assert!(rt; !wanted, "{bytes:?}"),
+    }
+}
+
+#[test]
+fn login_words_keep_to_their_rule_and_are_not_shown(rt: HostRuntime) {
+    let rows: [(&[u8], bool); 9] = [
+        (b"bob", true),
+        (b"!<>\"~", true),
+        (&[b'~'; 200], true),
+        (b"", false),
+        (b"a b", false),
+        (b"a\0b", false),
+        (b"a\r\nb", false),
+        (b"a\x7f", false),
+        (&[b'a'; 201], false),
+    ];
+    for (bytes, wanted) in rows {
+        is_login_word(&rt, bytes, wanted);
+    }
+}
+
+// Asserts that a command has this text.
+fn has_text<R: Abort>(rt: &R, command: Command<'_>, text: &[u8])
+    requires { HasArticleNumbers command }
+{
+    let mut out = [0; 512];
+    let len = write_command(command, &mut out);
+    assert!(rt; &out[..len] == text, "{text:?}");
+}
+
+#[test]
+fn commands_of_one_word_have_their_texts(rt: HostRuntime) {
+    has_text(&rt, Command::Post, b"POST\r\n");
+    has_text(&rt, Command::Quit, b"QUIT\r\n");
+}
+
+#[test]
+fn commands_of_articles_have_their_texts(rt: HostRuntime) {
+    let id = MessageId::new(b"tok.1of1@example.org").expect(&rt, "a message-id");
+    has_text(&rt, Command::Body(&id), b"BODY <tok.1of1@example.org>\r\n");
+    has_text(&rt, Command::Stat(&id), b"STAT <tok.1of1@example.org>\r\n");
+}
+
+#[test]
+fn commands_of_newsgroups_have_their_texts(rt: HostRuntime) {
+    let group = GroupName::new(b"alt.binaries.test").expect(&rt, "a newsgroup");
+    has_text(&rt, Command::Group(&group), b"GROUP alt.binaries.test\r\n");
+    let all = Command::Over {
+        first: 1,
+        last: 9_999_999_999_999_999,
+    };
+    has_text(&rt, all, b"OVER 1-9999999999999999\r\n");
+}
+
+#[test]
+fn commands_of_logins_have_their_texts(rt: HostRuntime) {
+    let user = LoginWord::new(b"bob").expect(&rt, "a word");
+    has_text(&rt, Command::User(&user), b"AUTHINFO USER bob\r\n");
+    let password = LoginWord::new(b"secret").expect(&rt, "a word");
+    has_text(&rt, Command::Pass(&password), b"AUTHINFO PASS secret\r\n");
 }

@@ -13,9 +13,9 @@ use Rattle.news_spool.specs.declared.link_state.LinkState.{LinkState}
 use Rattle.news_spool.specs.declared.plan.SpoolPlan.{SpoolPlan}
 use Rattle.news_spool.specs.declared.spool.Spool.{Spool}
 use Rattle.news_spool.specs.LinkState.{given}
-use Rattle.news_spool.specs.Links.{Opens, after_end, after_receive, after_sent, state_at}
+use Rattle.news_spool.specs.Links.{OpensLink, after_end, after_receive, after_sent, state_at}
 use Rattle.news_spool.specs.Spool.{spool_articles, spool_events, spool_held, spool_links, spool_plan}
-use Rattle.news_spool.specs.History.{Act, added, told, all_told, after_act, events_of, held_after, held_from, GoesOn}
+use Rattle.news_spool.specs.History.{Act, added, told, all_told, after_act, events_of, held_after, held_from, GoesOnBy}
 
 events_append : (acts more : List Act) → events_of (acts ++ more) ≡ events_of acts ++ events_of more
 events_append [] more = refl
@@ -32,7 +32,7 @@ held_append plan (act ∷ acts) more held = held_append plan acts more (after_ac
 
 -- by acts that are told, and change what is held so
 pub goes_on : (before now : Spool) (acts : List Act) → spool_plan now ≡ spool_plan before → spool_events now ≡ spool_events before ++ events_of acts
-    → spool_held now ≡ held_from (spool_plan before) acts (spool_held before) → GoesOn before now acts
+    → spool_held now ≡ held_from (spool_plan before) acts (spool_held before) → GoesOnBy before now acts
 goes_on before now acts plan events held history has = record {
   events = events ∙ ap (λ (x : List LinkEvent). x ++ events_of acts) has.events ∙ sym (events_append history acts);
   held = held ∙ ap (held_from (spool_plan before) acts) has.held ∙ sym (held_append (spool_plan before) history acts ([], []))
@@ -45,15 +45,15 @@ pair_is : {a b : List LinkState} {x y : List Article} → a ≡ b → x ≡ y �
 pair_is e f = cc
 
 pub adds : (before now : Spool) (article : Article) → spool_plan now ≡ spool_plan before → spool_events now ≡ spool_events before → spool_links now ≡ spool_links before
-    → spool_articles now ≡ spool_articles before ++ article ∷ [] → GoesOn before now (added article ∷ [])
+    → spool_articles now ≡ spool_articles before ++ article ∷ [] → GoesOnBy before now (added article ∷ [])
 adds before now article plan events links articles =
     goes_on before now (added article ∷ []) plan (events ∙ sym (append-nil (spool_events before))) (pair_is links articles)
 
 pub opens : {E : Type 0} (before now : Spool) (address : List ℕ) (result : Result ℕ E) → spool_plan now ≡ spool_plan before
     → spool_events now ≡ spool_events before ++ opened_events address result
-    → IfOk result (λ link. Opens (spool_plan before) address link (spool_links before) (spool_links now))
+    → IfOk result (λ link. OpensLink (spool_plan before) address link (spool_links before) (spool_links now))
     → OnErr result (spool_links now ≡ spool_links before) → spool_articles now ≡ spool_articles before
-    → GoesOn before now (all_told (opened_events address result))
+    → GoesOnBy before now (all_told (opened_events address result))
 opens before now address (Ok link) plan events opened none articles =
     goes_on before now (told (Opened link address) ∷ []) plan events
     (pair_is (opened.2 ∙ ap (λ (state : Option LinkState). spool_links before ++ option_to_list state) (sym opened.1)) articles)
@@ -74,7 +74,7 @@ pub sends : {E : Type 0} (before now : Spool) (link : ℕ) (bytes : List ℕ) (r
     → spool_events now ≡ spool_events before ++ sent_events link bytes result → IfOk result (λ n. n ≡ length bytes)
     → OnOk result (spool_held now ≡ after_sent (spool_plan before) link bytes (spool_held before))
     → OnErr result (spool_links now ≡ after_end link (spool_links before)) → OnErr result (spool_articles now ≡ spool_articles before)
-    → GoesOn before now (all_told (sent_events link bytes result))
+    → GoesOnBy before now (all_told (sent_events link bytes result))
 sends before now link bytes (Ok n) plan events whole heard ended articles =
     goes_on before now (told (Sent link (take n bytes)) ∷ []) plan events
     (heard ∙ ap (λ (all : List ℕ). after_sent (spool_plan before) link all (spool_held before)) (sym (take_all bytes n whole)))
@@ -84,7 +84,7 @@ sends before now link bytes (Err error) plan events whole heard ended articles =
 pub receives : (before now : Spool) (link room : ℕ) (buf : List ℕ) (result : Got) → length buf ≡ room → spool_plan now ≡ spool_plan before
     → spool_events now ≡ spool_events before ++ heard_events link buf result → GotFits room result
     → spool_links now ≡ after_receive (spool_links before) link result → spool_articles now ≡ spool_articles before
-    → GoesOn before now (all_told (heard_events link buf result))
+    → GoesOnBy before now (all_told (heard_events link buf result))
 receives before now link room buf (got.Bytes n) same plan events fits links articles =
     let len = length_taken buf n (omega (arith, fits.1, same)) in
     goes_on before now (told (Heard link (take n buf)) ∷ []) plan events

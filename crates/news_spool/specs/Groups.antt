@@ -53,7 +53,7 @@ with_number None number = record { count = 1; low = number; high = number }
 with_number (Some told) number = record { count = told.count + 1; low = min told.low number; high = max told.high number }
 
 -- what was counted is below a number
-pub record IsBelow (number : ℕ) (told : GroupReply) : Type 0 where
+pub record CountsBelow (number : ℕ) (told : GroupReply) : Type 0 where
   pub count : told.count < number
   pub low : told.low < number
   pub high : told.high < number

@@ -56,5 +56,5 @@ pub record HasHistory (spool : Spool) (acts : List Act) : Type 0 where
   pub held : spool_held spool ≡ held_after (spool_plan spool) acts
 
 -- it goes on by these acts
-abbrev pub GoesOn : Spool → Spool → List Act → Type 0
-GoesOn before now acts = (history : List Act) → HasHistory before history → HasHistory now (history ++ acts)
+abbrev pub GoesOnBy : Spool → Spool → List Act → Type 0
+GoesOnBy before now acts = (history : List Act) → HasHistory before history → HasHistory now (history ++ acts)

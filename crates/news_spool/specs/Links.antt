@@ -37,8 +37,8 @@ opened_link plan address link =
     option_map (λ server. new_link server (ends_after plan.links link) (quiet_after plan.links link)) (server_of plan.servers address)
 
 -- such a link comes behind the others
-abbrev pub Opens : SpoolPlan → List ℕ → ℕ → List LinkState → List LinkState → Type 0
-Opens plan address link before after =
+abbrev pub OpensLink : SpoolPlan → List ℕ → ℕ → List LinkState → List LinkState → Type 0
+OpensLink plan address link before after =
     (opened : LinkState) × (opened_link plan address link ≡ Some opened) × (after ≡ before ++ opened ∷ [])
 
 -- ---- one link

@@ -1,6 +1,6 @@
 // What the articles say of a newsgroup.
 ghost use Rattle.std.specs.Prelude.{◌≡◌, ◌<◌, ◌+◌, ◌++◌, IfSome, OnOk};
-ghost use Rattle.news_spool.specs.Groups.{IsBelow, group_count, group_line, with_number};
+ghost use Rattle.news_spool.specs.Groups.{CountsBelow, group_count, group_line, with_number};
 
 use crate::article::Article;
 use crate::owed::Owed;
@@ -23,9 +23,9 @@ pub(crate) fn count_group(name: &[u8], articles: &[Article]) -> Option<GroupRepl
 // One number more, which is above those before it.
 fn with_number(found: Option<GroupReply>, number: u64) -> GroupReply
     requires some { 0 < number }
-    requires below { IfSome found (IsBelow number) }
+    requires below { IfSome found (CountsBelow number) }
     ensures told { result ≡ with_number found number }
-    ensures below { IsBelow (number + 1) result }
+    ensures below { CountsBelow (number + 1) result }
 {
     match found {
         None => GroupReply {

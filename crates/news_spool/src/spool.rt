@@ -5,7 +5,7 @@ ghost use Rattle.io_traits.specs.Causes.{HasCause, BlamesNamed, Rose, blame_afte
 ghost use Rattle.io_memory.specs.LinkLog.{log_events, log_live};
 ghost use Rattle.io_traits.specs.Links.{tell, opened_events, sent_events, heard_events, live_after_open, live_after_send, live_after_receive, GotFits, GotHasCause, blame_after_receive};
 ghost use Rattle.io_memory.specs.Script.{OnFailed, UnlessFailed};
-ghost use Rattle.news_spool.specs.Links.{GivesOwed, Opens, after_end, after_receive, after_sent, are_served, due_at, ends_after, entry_of, got_of, login_of, quiet_after, server_of, state_at};
+ghost use Rattle.news_spool.specs.Links.{GivesOwed, OpensLink, after_end, after_receive, after_sent, are_served, due_at, ends_after, entry_of, got_of, login_of, quiet_after, server_of, state_at};
 ghost use Rattle.news_spool.specs.LinkState.{CanGive, DueFits, given};
 ghost use Rattle.news_spool.specs.Pieces.{next_turn};
 
@@ -38,7 +38,7 @@ pub struct Spool {
 
 impl Spool {
     ghost use Rattle.news_spool.specs.Articles.{is_known, new_article};
-    ghost use Rattle.news_spool.specs.History.{GoesOn, HasHistory, added};
+    ghost use Rattle.news_spool.specs.History.{GoesOnBy, HasHistory, added};
     ghost use Rattle.news_spool.specs.Spool.{KeepsLinks, KeepsOutside, spool_articles, spool_blame, spool_events, spool_faults, spool_held, spool_links, spool_live, spool_plan, spool_turn};
     ghost use Rattle.io_traits.specs.declared.links.LinkEvent.TheVariants.{Ended, Sent};
     ghost use Rattle.news_spool.specs.declared.error.SpoolError.TheVariants as errors;
@@ -97,7 +97,7 @@ impl Spool {
         ensures known { (result ≡ Err errors.Known) ↔ IsTrue (is_known id (spool_articles self.old)) }
         ensures err { OnErr result (spool_articles self.new ≡ spool_articles self.old) }
         ensures links { KeepsLinks self.old self.new }
-        ensures history { OnOk result (GoesOn self.old self.new (added (new_article id group head body) ∷ [])) }
+        ensures history { OnOk result (GoesOnBy self.old self.new (added (new_article id group head body) ∷ [])) }
     {
         if Article::is_known(&id, self.articles.as_slice()) {
             return Err(SpoolError::Known);
@@ -118,13 +118,13 @@ impl Spool {
         }
     }
 
-    // Opens the next link to the server with an address, where there is one. `Failed` changes nothing.
+    // OpensLink the next link to the server with an address, where there is one. `Failed` changes nothing.
     #[tactic(auto, using(crate::proofs::Served::one_more))]
     fn open_link(&mut self, address: &[u8]) -> Result<u32, Failed>
         ensures number { IfOk result (λ link. link ≡ length (spool_live self.old)) }
         ensures live { spool_live self.new ≡ live_after_open (spool_live self.old) result }
         ensures events { spool_events self.new ≡ spool_events self.old ++ opened_events address.now result }
-        ensures links { IfOk result (λ link. Opens (spool_plan self.old) address.now link (spool_links self.old) (spool_links self.new)) }
+        ensures links { IfOk result (λ link. OpensLink (spool_plan self.old) address.now link (spool_links self.old) (spool_links self.new)) }
         ensures none { OnErr result (spool_links self.new ≡ spool_links self.old) }
         ensures listed { server_of (spool_plan self.old).servers address.now ≡ None → IsErr result }
         ensures plan { spool_plan self.new ≡ spool_plan self.old }
@@ -318,7 +318,7 @@ fn bounds_of(entries: &[SpoolLink], link: usize) -> (Option<u64>, Option<u64>)
 }
 
 impl Links for Spool {
-    ghost use Rattle.news_spool.specs.History.{GoesOn, all_told};
+    ghost use Rattle.news_spool.specs.History.{GoesOnBy, all_told};
     ghost use Rattle.news_spool.specs.Spool.{spool_articles, spool_blame, spool_events, spool_faults, spool_held, spool_links, spool_live, spool_plan, spool_turn};
 
     ghost faults = { spool_faults };
@@ -331,7 +331,7 @@ impl Links for Spool {
 
     ghost keeps_turns = { true };
 
-    /// Opens a link to the first server with this address, which owes its greeting.
+    /// OpensLink a link to the first server with this address, which owes its greeting.
     fn open(&mut self, address: &[u8]) -> Result<u32, Failed>
         ensures cause { HasCause (spool_faults self.old) (spool_faults self.new) result }
         ensures blame { BlamesNamed (Some (spool_blame self.old)) (Some (spool_blame self.new)) (Blame.Open address.now) result }
@@ -344,12 +344,12 @@ impl Links for Spool {
         ensures counted { OnErr result (spool_faults self.new ≡ next_count (spool_faults self.old)) }
 
         // The link comes behind the others, as the plan has it. Nothing else changes.
-        ensures opened { IfOk result (λ link. Opens (spool_plan self.old) address.now link (spool_links self.old) (spool_links self.new)) }
+        ensures opened { IfOk result (λ link. OpensLink (spool_plan self.old) address.now link (spool_links self.old) (spool_links self.new)) }
         ensures none { OnErr result (spool_links self.new ≡ spool_links self.old) }
         ensures articles { spool_articles self.new ≡ spool_articles self.old }
         ensures turn { spool_turn self.new ≡ spool_turn self.old }
         ensures plan { spool_plan self.new ≡ spool_plan self.old }
-        ensures history { GoesOn self.old self.new (all_told (opened_events address.now result)) }
+        ensures history { GoesOnBy self.old self.new (all_told (opened_events address.now result)) }
     {
         match self.open_link(address) {
             Ok(link) => Ok(link),
@@ -381,7 +381,7 @@ impl Links for Spool {
         ensures articles { OnErr result (spool_articles self.new ≡ spool_articles self.old) }
         ensures turn { spool_turn self.new ≡ spool_turn self.old }
         ensures plan { spool_plan self.new ≡ spool_plan self.old }
-        ensures history { GoesOn self.old self.new (all_told (sent_events link bytes.now result)) }
+        ensures history { GoesOnBy self.old self.new (all_told (sent_events link bytes.now result)) }
     {
         let before = self.articles.len();
         match self.take(link, bytes) {
@@ -414,7 +414,7 @@ impl Links for Spool {
         ensures turn { spool_turn self.new ≡ next_turn (length (spool_plan self.old).pieces) (spool_turn self.old) }
         ensures articles { spool_articles self.new ≡ spool_articles self.old }
         ensures plan { spool_plan self.new ≡ spool_plan self.old }
-        ensures history { GoesOn self.old self.new (all_told (heard_events link buf.new result)) }
+        ensures history { GoesOnBy self.old self.new (all_told (heard_events link buf.new result)) }
     {
         let due = self.next_on(link, buf);
         self.turn = next_turn(self.plan.pieces.len(), self.turn);

@@ -5,7 +5,7 @@ use Rattle.std.specs.List.{list_any}
 use Rattle.std.proofs.lemmas.Bool.{cases_Bool, or_from}
 use Rattle.std.proofs.lemmas.Slice.Eq.{bytes_eq-Decides}
 use Rattle.numbers.specs.Numbers.{decimal_of, within, or_zero}
-use Rattle.nzb_index.specs.Markup.{Attribute, AreAttributes, Checks, attribute, has_attribute, or_nothing, number_of}
+use Rattle.nzb_index.specs.Markup.{Attribute, AreAttributes, AttributeChecks, attribute, has_attribute, or_nothing, number_of}
 use Rattle.nzb_index.specs.Nzb.{segment_checks, file_checks, IsSegment, IsFile}
 use Rattle.nzb_index.specs.declared.index.Segment.{Segment}
 use Rattle.nzb_index.specs.declared.index.FileEntry.{FileEntry}
@@ -20,7 +20,7 @@ among : (name : List ℕ) (attributes : List Attribute) → has_attribute name a
 among name [] = refl
 among name (a ∷ more) = elim (cases_Bool (bytes_eq a.name name)) [ inl t ↦ rw t refl | inr f ↦ rw f (among name more) ]
 
-none_behind : (checks : Checks) (name : List ℕ) (earlier : List Attribute) (text : List ℕ) (attributes : List Attribute) → AreAttributes checks earlier text attributes → has_attribute name earlier ≡ true → list_any (λ b. bytes_eq name b.name) attributes ≡ false
+none_behind : (checks : AttributeChecks) (name : List ℕ) (earlier : List Attribute) (text : List ℕ) (attributes : List Attribute) → AreAttributes checks earlier text attributes → has_attribute name earlier ≡ true → list_any (λ b. bytes_eq name b.name) attributes ≡ false
 none_behind checks name earlier text [] are h = refl
 none_behind checks name earlier text (a ∷ more) (first, rest, e, is, new, fits, are) h = or_from (bytes_eq name a.name) _ (other (cases_Bool (bytes_eq name a.name))) (none_behind checks name (earlier ++ a ∷ []) rest more are (still earlier h))
   where
@@ -32,7 +32,7 @@ none_behind checks name earlier text (a ∷ more) (first, rest, e, is, new, fits
     still [] h = absurd cc
     still (b ∷ before) h = elim (cases_Bool (bytes_eq b.name name)) [ inl t ↦ rw t refl | inr f ↦ rw f (still before (rw f at h)) ]
 
-pub names_differ : (checks : Checks) (earlier : List Attribute) (text : List ℕ) (attributes : List Attribute) → AreAttributes checks earlier text attributes → HaveDifferentNames attributes
+pub names_differ : (checks : AttributeChecks) (earlier : List Attribute) (text : List ℕ) (attributes : List Attribute) → AreAttributes checks earlier text attributes → HaveDifferentNames attributes
 names_differ checks earlier text [] are = tt
 names_differ checks earlier text (a ∷ more) (first, rest, e, is, new, fits, are) = (none_behind checks a.name (earlier ++ a ∷ []) rest more are (at_end earlier), names_differ checks (earlier ++ a ∷ []) rest more are)
   where
@@ -41,7 +41,7 @@ names_differ checks earlier text (a ∷ more) (first, rest, e, is, new, fits, ar
     at_end (b ∷ before) = elim (cases_Bool (bytes_eq b.name a.name)) [ inl t ↦ rw t refl | inr f ↦ rw f (at_end before) ]
 
 -- each value passes its check
-pub value_fits : (checks : Checks) (name value : List ℕ) (earlier : List Attribute) (text : List ℕ) (attributes : List Attribute) → AreAttributes checks earlier text attributes → attribute name attributes ≡ Some value → checks name value ≡ true
+pub value_fits : (checks : AttributeChecks) (name value : List ℕ) (earlier : List Attribute) (text : List ℕ) (attributes : List Attribute) → AreAttributes checks earlier text attributes → attribute name attributes ≡ Some value → checks name value ≡ true
 value_fits checks name value earlier text [] are e = absurd cc
 value_fits checks name value earlier text (a ∷ more) (first, rest, f, is, new, fits, are) e = elim (cases_Bool (bytes_eq a.name name)) [
   | inl t ↦
@@ -66,7 +66,7 @@ abbrev pub IsNumberOrNone : Option (List ℕ) → ℕ → ℕ → Type 0
 IsNumberOrNone None high n = n ≡ 0
 IsNumberOrNone (Some value) high n = within 0 high (decimal_of value) ≡ Some n
 
-number_or_none : (checks : Checks) (name text : List ℕ) (attributes : List Attribute) (high : ℕ) → AreAttributes checks [] text attributes → ((value : List ℕ) → checks name value ≡ is_some (within 0 high (decimal_of value))) →
+number_or_none : (checks : AttributeChecks) (name text : List ℕ) (attributes : List Attribute) (high : ℕ) → AreAttributes checks [] text attributes → ((value : List ℕ) → checks name value ≡ is_some (within 0 high (decimal_of value))) →
     IsNumberOrNone (attribute name attributes) high (number_of name attributes)
 number_or_none checks name text attributes high are c = go (attribute name attributes) refl
   where

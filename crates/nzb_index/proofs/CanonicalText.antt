@@ -12,8 +12,8 @@ use Rattle.nzb_index.specs.declared.index.Meta.{Meta}
 use Rattle.nzb_index.specs.declared.index.Segment.{Segment}
 use Rattle.nzb_index.specs.declared.index.FileEntry.{FileEntry}
 use Rattle.nzb_index.specs.declared.index.Index.{Index}
-use Rattle.nzb_index.specs.Markup.{IsTextBytes, Attribute, Checks, unchecked, is_white, is_control, is_id_byte, is_message_id, IsName, spaced, IsValue, IsText, trimmed, IsAttribute, AreAttributes, has_attribute, IsElement, AreElements, EndsAtFirst}
-use Rattle.nzb_index.specs.Nzb.{segment_checks, file_checks, IsMeta, IsGroup, IsSegment, Listed, groups, segments, IsListed, IsFile, Entry, head, file, IsEntry, metas_in, files_in, IsNzb}
+use Rattle.nzb_index.specs.Markup.{IsTextBytes, Attribute, AttributeChecks, unchecked, is_white, is_control, is_id_byte, is_message_id, IsMarkupName, spaced, IsValue, IsElementText, trimmed, IsAttribute, AreAttributes, has_attribute, IsElement, AreElements, EndsAtFirst}
+use Rattle.nzb_index.specs.Nzb.{segment_checks, file_checks, IsMeta, IsGroup, IsSegment, Listed, groups, segments, Lists, IsFile, Entry, head, file, IsEntry, metas_in, files_in, IsNzb}
 use Rattle.nzb_index.specs.Canonical.{escaped_byte, escaped, meta_text, group_text, segment_text, file_text, head_text, nzb_text, IsValidFile, IsValidIndex}
 use Rattle.nzb_index.specs.MarkupReading.{up_to}
 use Rattle.nzb_index.specs.NzbReading.{nzb_of}
@@ -115,7 +115,7 @@ text_pieces (b ∷ t) clean = let r = or_parts (is_control b) (list_any is_contr
 is_escaped_value : (t : List ℕ) → IsTextBytes t → IsValue (escaped t) t
 is_escaped_value t clean = (pieces_of t, value_pieces t clean, spaced_none (escaped t) (escaped_none breaks (λ b h. (escaped_one b h).no_break) t clean) ∙ raw_pieces t, byte_pieces t)
 
-is_escaped_text : (t : List ℕ) → IsTextBytes t → trimmed t ≡ t → IsText (escaped t) t
+is_escaped_text : (t : List ℕ) → IsTextBytes t → trimmed t ≡ t → IsElementText (escaped t) t
 is_escaped_text t clean e = (t, (pieces_of t, text_pieces t clean, raw_pieces t, byte_pieces t), sym e)
 
 -- ---- numbers and identifiers
@@ -215,7 +215,7 @@ attribute_text name value = 32 ∷ (name ++ codes "=\"" ++ escaped value ++ code
 written : List ℕ → List ℕ → Attribute
 written name value = record { name = name; value = value }
 
-is_written : (name value : List ℕ) → IsName name → IsTextBytes value → IsAttribute (attribute_text name value) (written name value)
+is_written : (name value : List ℕ) → IsMarkupName name → IsTextBytes value → IsAttribute (attribute_text name value) (written name value)
 unfolding attribute_text written
 is_written name value n clean = record {
   before = codes " ";
@@ -244,14 +244,14 @@ lines_are {A} IsOne line P each (x ∷ xs) h =
 element_text : List ℕ → List ℕ → List ℕ → List ℕ
 element_text name attributes inside = (codes "<" ++ name) ++ attributes ++ codes ">" ++ inside ++ (codes "</" ++ name ++ codes ">")
 
-is_element_text : (checks : Checks) (name text inside : List ℕ) (attributes : List Attribute) → AreAttributes checks [] text attributes → IsElement checks name (element_text name text inside) attributes inside
+is_element_text : (checks : AttributeChecks) (name text inside : List ℕ) (attributes : List Attribute) → AreAttributes checks [] text attributes → IsElement checks name (element_text name text inside) attributes inside
 unfolding element_text
 is_element_text checks name text inside attributes are = record { attribute_text = text; white = []; are_attributes = are; is_white = refl; text_is = inr ([], refl, joined (codes "<") name text (codes ">") inside (codes "</")) }
   where
     joined : (l n a g i e : List ℕ) → (l ++ n) ++ a ++ g ++ i ++ (e ++ n ++ g) ≡ l ++ n ++ a ++ [] ++ g ++ i ++ e ++ n ++ [] ++ g
     joined l n a g i e = simp append_assoc
 
-one_attribute : (checks : Checks) (name value : List ℕ) → IsName name → IsTextBytes value → checks name value ≡ true → (earlier : List Attribute) → has_attribute name earlier ≡ false → (rest : List ℕ) (more : List Attribute) →
+one_attribute : (checks : AttributeChecks) (name value : List ℕ) → IsMarkupName name → IsTextBytes value → checks name value ≡ true → (earlier : List Attribute) → has_attribute name earlier ≡ false → (rest : List ℕ) (more : List Attribute) →
     AreAttributes checks (earlier ++ written name value ∷ []) rest more → AreAttributes checks earlier (attribute_text name value ++ rest) (written name value ∷ more)
 unfolding written
 one_attribute checks name value n clean fits earlier new rest more are = (attribute_text name value, rest, refl, is_written name value n clean, new, fits, are)
@@ -259,7 +259,7 @@ one_attribute checks name value n clean fits earlier new rest more are = (attrib
 abbrev IsGoodMeta : Meta → Type 0
 IsGoodMeta m = IsTextBytes m.kind × IsTextBytes m.text × (trimmed m.text ≡ m.text)
 
-is_type : IsName (codes "type")
+is_type : IsMarkupName (codes "type")
 is_type = (λ e. cc, refl)
 
 meta_line : (m : Meta) → IsGoodMeta m → (one : List ℕ) × (meta_text m ≡ one ++ 10 ∷ []) × IsMeta one m
@@ -293,10 +293,10 @@ group_line g h = (element_text (codes "group") [] (escaped g), joined (codes "<g
 abbrev IsGoodSegment : Segment → Type 0
 IsGoodSegment s = (1 ≤ s.number) × (s.number ≤ 4294967295) × (s.bytes ≤ 999999999999) × (is_message_id s.id ≡ true)
 
-is_bytes : IsName (codes "bytes")
+is_bytes : IsMarkupName (codes "bytes")
 is_bytes = (λ e. cc, refl)
 
-is_number : IsName (codes "number")
+is_number : IsMarkupName (codes "number")
 is_number = (λ e. cc, refl)
 
 within_some : (low high n : ℕ) → low ≤ n → n ≤ high → high < 2 ^ 64 → is_some (within low high (decimal_of (decimal n))) ≡ true
@@ -347,7 +347,7 @@ IsGoodListed (segments ss) = AllByRecursion IsGoodSegment ss
 lined : (l z t e : List ℕ) → (l ++ z) ++ t ++ (e ++ z) ≡ (l ++ (z ++ t) ++ e) ++ z
 lined l z t e = simp append_assoc
 
-listed_line_is : (x : Listed) → IsGoodListed x → (one : List ℕ) × (listed_line x ≡ one ++ 10 ∷ []) × IsListed one x
+listed_line_is : (x : Listed) → IsGoodListed x → (one : List ℕ) × (listed_line x ≡ one ++ 10 ∷ []) × Lists one x
 unfolding element_text listed_line
 listed_line_is (groups gs) h = (
   element_text (codes "groups") [] (10 ∷ flat_map group_text gs),
@@ -360,13 +360,13 @@ listed_line_is (segments ss) h = (
   ([], 10 ∷ flat_map segment_text ss, is_element_text unchecked (codes "segments") [] (10 ∷ flat_map segment_text ss) [] refl, lines_are IsSegment segment_text IsGoodSegment segment_line ss h),
 )
 
-is_poster : IsName (codes "poster")
+is_poster : IsMarkupName (codes "poster")
 is_poster = (λ e. cc, refl)
 
-is_date : IsName (codes "date")
+is_date : IsMarkupName (codes "date")
 is_date = (λ e. cc, refl)
 
-is_subject : IsName (codes "subject")
+is_subject : IsMarkupName (codes "subject")
 is_subject = (λ e. cc, refl)
 
 file_line : (f : FileEntry) → IsValidFile f → (one : List ℕ) × (file_text f ≡ one ++ 10 ∷ []) × IsFile one f
@@ -392,7 +392,7 @@ file_line f h =
             (one_attribute file_checks (codes "poster") f.poster is_poster h.poster refl [] refl (date ++ (subject ++ [])) (b ∷ c ∷ [])
             (one_attribute file_checks (codes "date") (decimal f.date) is_date (decimal_escaped f.date date_fits).1 (within_some 0 999999999999 f.date (omega arith) h.date (omega arith)) (a ∷ []) refl (subject ++ []) (c ∷ [])
             (one_attribute file_checks (codes "subject") f.subject is_subject h.subject refl (a ∷ b ∷ []) refl [] [] refl))),
-        lines_are IsListed listed_line IsGoodListed listed_line_is parts (h.groups, (h.segments, tt)),
+        lines_are Lists listed_line IsGoodListed listed_line_is parts (h.groups, (h.segments, tt)),
         refl,
         refl,
         sym (rw (decimal_read f.date date_fits) refl),
@@ -479,7 +479,7 @@ entries_good (m ∷ metas) files h k = (h, files_good files k)
 ends_first : (c : ℕ) (w text : List ℕ) → up_to (c ∷ w) text ≡ Ok [] → EndsAtFirst text (c ∷ w)
 ends_first c w text e = let f = up_to_found c w text [] e in subst (λ (t : List ℕ). EndsAtFirst t (c ∷ w)) (sym (f.1 ∙ append-nil f.0)) f.2
 
-is_xmlns : IsName (codes "xmlns")
+is_xmlns : IsMarkupName (codes "xmlns")
 is_xmlns = (λ e. cc, refl)
 
 pub canonical_is_nzb : (i : Index) → IsValidIndex i → length (nzb_text i) ≤ MOST_TEXT_BYTES → IsNzb (nzb_text i) i

@@ -4,7 +4,7 @@ use Rattle.std.specs.Prelude.{codes, nat_eq}
 use Rattle.std.specs.List.{starts_with}
 use Rattle.std.proofs.lemmas.List.{length-drop}
 use Rattle.nzb_index.specs.declared.error.NzbError.{NzbError}
-use Rattle.nzb_index.specs.MarkupReading.{Stop, Reading, unexpected, word, name_at, between, end_tag, children, parent, ◌>>=◌}
+use Rattle.nzb_index.specs.MarkupReading.{Stop, ValueRead, unexpected, word, name_at, between, end_tag, children, parent, ◌>>=◌}
 use Rattle.nzb_index.specs.Readers.{Fails, ReadsValue, unexpected_at}
 use Rattle.nzb_index.specs.Elements.{Next, ended, opened, next_at, ReadsNext, bare}
 use Rattle.nzb_index.specs.declared.elements.Child.{Child}
@@ -28,11 +28,11 @@ next_opened name text at mid inside end l m b s n w o q h =
 -- ---- one more
 
 -- an element's content goes on with what stands next
-step : {S : Type 0} (item : S → List ℕ → List ℕ → List ℕ → Reading S) (name : List ℕ) (fuel : ℕ) (state : S) → Next → Reading S
+step : {S : Type 0} (item : S → List ℕ → List ℕ → List ℕ → ValueRead S) (name : List ℕ) (fuel : ℕ) (state : S) → Next → ValueRead S
 step item name fuel state (ended behind) = Ok (state, behind)
 step item name fuel state (opened n from rest) = item state n from rest >>= λ s. children item name fuel s.0 s.1
 
-children_step : {S : Type 0} (item : S → List ℕ → List ℕ → List ℕ → Reading S) (name : List ℕ) (fuel : ℕ) (state : S) (rest : List ℕ) → children item name (suc fuel) state rest ≡ (next_at name rest >>= step item name fuel state)
+children_step : {S : Type 0} (item : S → List ℕ → List ℕ → List ℕ → ValueRead S) (name : List ℕ) (fuel : ℕ) (state : S) (rest : List ℕ) → children item name (suc fuel) state rest ≡ (next_at name rest >>= step item name fuel state)
 unfolding step
 children_step {S} item name fuel state rest = from_between (between rest)
   where
@@ -63,17 +63,17 @@ children_step {S} item name fuel state rest = from_between (between rest)
 -- ---- from child to child
 
 -- the children up to a place are read
-pub record StillChildren {S : Type 0} (item : S → List ℕ → List ℕ → List ℕ → Reading S) (name text : List ℕ) (at end : ℕ) (start state : S) : Type 0 where
+pub record StillChildren {S : Type 0} (item : S → List ℕ → List ℕ → List ℕ → ValueRead S) (name text : List ℕ) (at end : ℕ) (start state : S) : Type 0 where
   pub behind : at ≤ end
   pub within : end ≤ length text
   pub left : ℕ
   pub fits : length (drop end text) ≤ left
   pub reads : children item name (length (drop at text)) start (drop at text) ≡ children item name left state (drop end text)
 
-pub children_start : {S : Type 0} (item : S → List ℕ → List ℕ → List ℕ → Reading S) (name text : List ℕ) (at : ℕ) (state : S) → at ≤ length text → StillChildren item name text at at state state
+pub children_start : {S : Type 0} (item : S → List ℕ → List ℕ → List ℕ → ValueRead S) (name text : List ℕ) (at : ℕ) (state : S) → at ≤ length text → StillChildren item name text at at state state
 children_start {S} item name text at state l = record { behind = omega arith; within = l; left = length (drop at text); fits = omega arith; reads = refl }
 
-pub children_over : {S : Type 0} (item : S → List ℕ → List ℕ → List ℕ → Reading S) (name text : List ℕ) (at end : ℕ) (start state : S) → StillChildren item name text at end start state → length text ≤ end →
+pub children_over : {S : Type 0} (item : S → List ℕ → List ℕ → List ℕ → ValueRead S) (name text : List ℕ) (at end : ℕ) (start state : S) → StillChildren item name text at end start state → length text ≤ end →
     Fails text (unexpected_at text end) (children item name (length (drop at text)) start (drop at text))
 children_over {S} item name text at end start state s l = unexpected_fails text end (children item name (length (drop at text)) start (drop at text)) s.within (s.reads ∙ rw (over text end l) (nothing s.left))
   where
@@ -82,33 +82,33 @@ children_over {S} item name text at end start state s l = unexpected_fails text 
     nothing (suc left) = refl
 
 -- with a byte there, some fuel is there
-record More {S : Type 0} (item : S → List ℕ → List ℕ → List ℕ → Reading S) (name text : List ℕ) (at end : ℕ) (start state : S) : Type 0 where
+record More {S : Type 0} (item : S → List ℕ → List ℕ → List ℕ → ValueRead S) (name text : List ℕ) (at end : ℕ) (start state : S) : Type 0 where
   less : ℕ
   fits : length (drop end text) ≤ suc less
   reads : children item name (length (drop at text)) start (drop at text) ≡ (next_at name (drop end text) >>= step item name less state)
 
-more : {S : Type 0} (item : S → List ℕ → List ℕ → List ℕ → Reading S) (name text : List ℕ) (at end : ℕ) (start state : S) → StillChildren item name text at end start state → end < length text → More item name text at end start state
+more : {S : Type 0} (item : S → List ℕ → List ℕ → List ℕ → ValueRead S) (name text : List ℕ) (at end : ℕ) (start state : S) → StillChildren item name text at end start state → end < length text → More item name text at end start state
 more {S} item name text at end start state s l = go s.left s.fits s.reads
   where
     go : (left : ℕ) → length (drop end text) ≤ left → children item name (length (drop at text)) start (drop at text) ≡ children item name left state (drop end text) → More item name text at end start state
     go zero fits e = absurd (omega (arith, length-drop end text, l, fits))
     go (suc left) fits e = record { less = left; fits = fits; reads = e ∙ children_step item name left state (drop end text) }
 
-pub children_fail : {S : Type 0} (item : S → List ℕ → List ℕ → List ℕ → Reading S) (name text : List ℕ) (at end : ℕ) (start state : S) (e : NzbError) → StillChildren item name text at end start state → end < length text → Fails text e (next_at name (drop end text)) →
+pub children_fail : {S : Type 0} (item : S → List ℕ → List ℕ → List ℕ → ValueRead S) (name text : List ℕ) (at end : ℕ) (start state : S) (e : NzbError) → StillChildren item name text at end start state → end < length text → Fails text e (next_at name (drop end text)) →
     Fails text e (children item name (length (drop at text)) start (drop at text))
 children_fail {S} item name text at end start state e s l h = let m = more item name text at end start state s l in fails_as text e _ _ m.reads (fails_then text e (next_at name (drop end text)) (step item name m.less state) h)
 
-pub children_end : {S : Type 0} (item : S → List ℕ → List ℕ → List ℕ → Reading S) (name text : List ℕ) (at end : ℕ) (start state : S) (rest : List ℕ) → StillChildren item name text at end start state → end < length text → next_at name (drop end text) ≡ Ok (ended rest) →
+pub children_end : {S : Type 0} (item : S → List ℕ → List ℕ → List ℕ → ValueRead S) (name text : List ℕ) (at end : ℕ) (start state : S) (rest : List ℕ) → StillChildren item name text at end start state → end < length text → next_at name (drop end text) ≡ Ok (ended rest) →
     children item name (length (drop at text)) start (drop at text) ≡ Ok (state, rest)
 unfolding step
 children_end {S} item name text at end start state rest s l h = let m = more item name text at end start state s l in m.reads ∙ rw h refl
 
-pub child_fails : {S : Type 0} (item : S → List ℕ → List ℕ → List ℕ → Reading S) (name text : List ℕ) (at end : ℕ) (start state : S) (n from rest : List ℕ) (e : NzbError) → StillChildren item name text at end start state → end < length text → next_at name (drop end text) ≡ Ok (opened n from rest) →
+pub child_fails : {S : Type 0} (item : S → List ℕ → List ℕ → List ℕ → ValueRead S) (name text : List ℕ) (at end : ℕ) (start state : S) (n from rest : List ℕ) (e : NzbError) → StillChildren item name text at end start state → end < length text → next_at name (drop end text) ≡ Ok (opened n from rest) →
     Fails text e (item state n from rest) → Fails text e (children item name (length (drop at text)) start (drop at text))
 unfolding step
 child_fails {S} item name text at end start state n from rest e s l h f = let m = more item name text at end start state s l in fails_as text e _ _ (m.reads ∙ rw h refl) (fails_then text e (item state n from rest) (λ s. children item name m.less s.0 s.1) f)
 
-pub child_goes : {S : Type 0} (item : S → List ℕ → List ℕ → List ℕ → Reading S) (name text : List ℕ) (at end last : ℕ) (start state new : S) (n from rest : List ℕ) → StillChildren item name text at end start state → end < length text → next_at name (drop end text) ≡ Ok (opened n from rest) →
+pub child_goes : {S : Type 0} (item : S → List ℕ → List ℕ → List ℕ → ValueRead S) (name text : List ℕ) (at end last : ℕ) (start state new : S) (n from rest : List ℕ) → StillChildren item name text at end start state → end < length text → next_at name (drop end text) ≡ Ok (opened n from rest) →
     end < last → last ≤ length text → item state n from rest ≡ Ok (new, drop last text) → StillChildren item name text at last start new
 unfolding step
 child_goes {S} item name text at end last start state new n from rest s l h a b i =
@@ -123,18 +123,18 @@ child_goes {S} item name text at end last start state new n from rest s l h a b 
 
 -- ---- the whole content
 
-pub parent_open : {S : Type 0} (item : S → List ℕ → List ℕ → List ℕ → Reading S) (name rest : List ℕ) (state : S) (closed : Bool) → closed ≡ false → parent item name (bare closed) state rest ≡ children item name (length rest) state rest
+pub parent_open : {S : Type 0} (item : S → List ℕ → List ℕ → List ℕ → ValueRead S) (name rest : List ℕ) (state : S) (closed : Bool) → closed ≡ false → parent item name (bare closed) state rest ≡ children item name (length rest) state rest
 parent_open {S} item name rest state closed e = rw e refl
 
-pub parent_over : {S : Type 0} (item : S → List ℕ → List ℕ → List ℕ → Reading S) (name text : List ℕ) (at end : ℕ) (start state : S) (closed : Bool) → closed ≡ false → StillChildren item name text at end start state → length text ≤ end →
+pub parent_over : {S : Type 0} (item : S → List ℕ → List ℕ → List ℕ → ValueRead S) (name text : List ℕ) (at end : ℕ) (start state : S) (closed : Bool) → closed ≡ false → StillChildren item name text at end start state → length text ≤ end →
     Fails text (unexpected_at text end) (parent item name (bare closed) start (drop at text))
 parent_over {S} item name text at end start state closed c s l = fails_as text (unexpected_at text end) _ _ (parent_open item name (drop at text) start closed c) (children_over item name text at end start state s l)
 
-pub parent_fails : {S : Type 0} (item : S → List ℕ → List ℕ → List ℕ → Reading S) (name text : List ℕ) (at end : ℕ) (start state : S) (closed : Bool) (e : NzbError) → closed ≡ false → StillChildren item name text at end start state → end < length text →
+pub parent_fails : {S : Type 0} (item : S → List ℕ → List ℕ → List ℕ → ValueRead S) (name text : List ℕ) (at end : ℕ) (start state : S) (closed : Bool) (e : NzbError) → closed ≡ false → StillChildren item name text at end start state → end < length text →
     Fails text e (next_at name (drop end text)) → Fails text e (parent item name (bare closed) start (drop at text))
 parent_fails {S} item name text at end start state closed e c s l h = fails_as text e _ _ (parent_open item name (drop at text) start closed c) (children_fail item name text at end start state e s l h)
 
-pub parent_ends : {S : Type 0} (item : S → List ℕ → List ℕ → List ℕ → Reading S) (name text : List ℕ) (at end last : ℕ) (start state : S) (closed : Bool) (found : Child) → closed ≡ false → StillChildren item name text at end start state → end < length text →
+pub parent_ends : {S : Type 0} (item : S → List ℕ → List ℕ → List ℕ → ValueRead S) (name text : List ℕ) (at end last : ℕ) (start state : S) (closed : Bool) (found : Child) → closed ≡ false → StillChildren item name text at end start state → end < length text →
     found ≡ child.Ended last → ReadsNext text end (Ok found) (next_at name (drop end text)) → ReadsValue text at state (Ok last) (parent item name (bare closed) start (drop at text))
 parent_ends {S} item name text at end last start state closed found c s l is h =
     let r : ReadsNext text end (Ok (child.Ended last)) (next_at name (drop end text)) = subst (λ (x : Child). ReadsNext text end (Ok x) (next_at name (drop end text))) is h in
@@ -145,14 +145,14 @@ opened_here : (name text : List ℕ) (end from behind : ℕ) (found : Child) →
     (end ≤ from) × (from + 1 < behind) × (behind ≤ length text) × (next_at name (drop end text) ≡ Ok (opened (take (behind - (from + 1)) (drop (from + 1) text)) (drop from text) (drop behind text)))
 opened_here name text end from behind found is h = subst (λ (x : Child). ReadsNext text end (Ok x) (next_at name (drop end text))) is h
 
-pub parent_item_fails : {S : Type 0} (item : S → List ℕ → List ℕ → List ℕ → Reading S) (name text : List ℕ) (at end from behind : ℕ) (start state : S) (closed : Bool) (found : Child) (e : NzbError) → closed ≡ false → StillChildren item name text at end start state → end < length text →
+pub parent_item_fails : {S : Type 0} (item : S → List ℕ → List ℕ → List ℕ → ValueRead S) (name text : List ℕ) (at end from behind : ℕ) (start state : S) (closed : Bool) (found : Child) (e : NzbError) → closed ≡ false → StillChildren item name text at end start state → end < length text →
     found ≡ child.Opened from behind → ReadsNext text end (Ok found) (next_at name (drop end text)) → Fails text e (item state (take (behind - (from + 1)) (drop (from + 1) text)) (drop from text) (drop behind text)) →
     Fails text e (parent item name (bare closed) start (drop at text))
 parent_item_fails {S} item name text at end from behind start state closed found e c s l is h f =
     let r = opened_here name text end from behind found is h in
     fails_as text e _ _ (parent_open item name (drop at text) start closed c) (child_fails item name text at end start state _ (drop from text) (drop behind text) e s l r.3 f)
 
-pub parent_item_goes : {S : Type 0} (item : S → List ℕ → List ℕ → List ℕ → Reading S) (name text : List ℕ) (at end from behind last : ℕ) (start state new : S) (found : Child) → StillChildren item name text at end start state → end < length text →
+pub parent_item_goes : {S : Type 0} (item : S → List ℕ → List ℕ → List ℕ → ValueRead S) (name text : List ℕ) (at end from behind last : ℕ) (start state new : S) (found : Child) → StillChildren item name text at end start state → end < length text →
     found ≡ child.Opened from behind → ReadsNext text end (Ok found) (next_at name (drop end text)) → behind ≤ last → last ≤ length text → item state (take (behind - (from + 1)) (drop (from + 1) text)) (drop from text) (drop behind text) ≡ Ok (new, drop last text) →
     (end < last) × StillChildren item name text at last start new
 parent_item_goes {S} item name text at end from behind last start state new found s l is h a b i =

@@ -4,8 +4,8 @@ use Rattle.std.specs.Prelude.{codes, nat_eq, fold, bytes_eq}
 use Rattle.std.specs.List.{starts_with}
 use Rattle.std.proofs.lemmas.Bool.{eqb-true, eqb-false, not-true, not-false}
 use Rattle.std.proofs.lemmas.Slice.Eq.{bytes_eq-Decides}
-use Rattle.nzb_index.specs.Markup.{Attribute, Checks, AreAttributes, is_control, IsWhite, IsComment, IsPlain, IsReference, IsText, StandsFor, trimmed, IsElement, AreElements, IsBetween}
-use Rattle.nzb_index.specs.MarkupReading.{Stop, Reading, Tag, word, name_at, up_to, reference_at, text_at, end_tag, or_stop, leaf, between, children, parent, behind_white}
+use Rattle.nzb_index.specs.Markup.{Attribute, AttributeChecks, AreAttributes, is_control, IsWhite, IsMarkupComment, IsPlainText, IsReference, IsElementText, Denotes, trimmed, IsElement, AreElements, IsBetween}
+use Rattle.nzb_index.specs.MarkupReading.{Stop, ValueRead, Tag, word, name_at, up_to, reference_at, text_at, end_tag, or_stop, leaf, between, children, parent, behind_white}
 use Rattle.nzb_index.proofs.TextsFound.{Reference, reference_found}
 use Rattle.nzb_index.proofs.Gives.{Gives, gives_ok, gives_err, gives_bind, gives_if, gives_as, gives_test, gives_unexpected, word_gives, between_gives, up_to_gives, white_taken, name_gives}
 use Rattle.nzb_index.proofs.TagsFound.{Tagged, tag_end}
@@ -13,12 +13,12 @@ use Rattle.nzb_index.proofs.TagsFound.{Tagged, tag_end}
 -- ---- texts
 
 abbrev pub TextPiece : List ℕ → List ℕ → Type 0
-TextPiece t p = IsPlain t p ⊎ IsReference t p ⊎ (IsComment t × (p ≡ []))
+TextPiece t p = IsPlainText t p ⊎ IsReference t p ⊎ (IsMarkupComment t × (p ≡ []))
 
 pub record Texted (rest bytes behind : List ℕ) : Type 0 where
   pub text : List ℕ
   pub rest_is : rest ≡ text ++ behind
-  pub stands : StandsFor TextPiece text bytes
+  pub stands : Denotes TextPiece text bytes
 
 pub with_text : (piece p rest bytes behind : List ℕ) → TextPiece piece p → Texted rest bytes behind → Texted (piece ++ rest) (p ++ bytes) behind
 with_text piece p rest bytes behind h t = record {
@@ -34,7 +34,7 @@ pub reference_text : (x : ℕ) (rest bytes left more behind : List ℕ) → x �
 unfolding Reference
 reference_text x rest bytes left more behind e (t, f, is, q) v = rw (e, f) (with_text (38 ∷ t) bytes left more behind (inr (inl is)) v)
 
-pub comment_text : (x : ℕ) (rest inside front left more behind : List ℕ) → x ≡ 60 → rest ≡ codes "!--" ++ inside → inside ≡ front ++ left → IsComment (codes "<!--" ++ front) → Texted left more behind → Texted (x ∷ rest) more behind
+pub comment_text : (x : ℕ) (rest inside front left more behind : List ℕ) → x ≡ 60 → rest ≡ codes "!--" ++ inside → inside ≡ front ++ left → IsMarkupComment (codes "<!--" ++ front) → Texted left more behind → Texted (x ∷ rest) more behind
 comment_text x rest inside front left more behind e f g c v = rw (e, f, g) (with_text (codes "<!--" ++ front) [] left more behind (inr (inr (c, refl))) v)
 
 pub text_gives : (fuel : ℕ) (rest : List ℕ) → Gives (text_at fuel rest) (λ t. Texted rest t.0 t.1)
@@ -91,7 +91,7 @@ end_tag_gives name known rest =
 pub record Leaf (name : List ℕ) (known : List ℕ → Option Stop) (closed : Bool) (rest text behind : List ℕ) : Type 0 where
   pub inside : List ℕ
   pub content : Content name closed rest inside behind
-  pub is_text : IsText inside text
+  pub is_text : IsElementText inside text
   pub unknown : known text ≡ None
 
 pub leaf_gives : (name : List ℕ) (known : List ℕ → Option Stop) (tag : Tag) (rest : List ℕ) → Gives (leaf name known tag rest) (λ t. Leaf name known tag.closed rest t.0 t.1)
@@ -110,12 +110,12 @@ leaf_gives name known tag rest = gives_if tag.closed _ _
 
 -- ---- elements
 
-pub record Element (checks : Checks) (name from behind : List ℕ) (attributes : List Attribute) (inside : List ℕ) : Type 0 where
+pub record Element (checks : AttributeChecks) (name from behind : List ℕ) (attributes : List Attribute) (inside : List ℕ) : Type 0 where
   pub one : List ℕ
   pub from_is : from ≡ one ++ behind
   pub is_element : IsElement checks name one attributes inside
 
-pub element : (checks : Checks) (name from rest : List ℕ) (tag : Tag) (mid inside behind : List ℕ) → from ≡ codes "<" ++ name ++ rest → Tagged checks [] rest tag mid →
+pub element : (checks : AttributeChecks) (name from rest : List ℕ) (tag : Tag) (mid inside behind : List ℕ) → from ≡ codes "<" ++ name ++ rest → Tagged checks [] rest tag mid →
     Content name tag.closed mid inside behind → Element checks name from behind tag.attributes inside
 element checks name from rest tag mid inside behind e t (none c i m) = record {
   one = codes "<" ++ name ++ t.text ++ t.white ++ codes "/>";
@@ -155,7 +155,7 @@ pub record Many {S A : Type 0} (IsOne : List ℕ → A → Type 0) (add : S → 
   pub after_is : after ≡ fold add before values
   pub fits : Fits after
 
-abbrev pub ReadsOne : {S A : Type 0} → (S → List ℕ → List ℕ → List ℕ → Reading S) → (List ℕ → A → Type 0) → (S → A → S) → (S → Type 0) → Type 0
+abbrev pub ReadsOne : {S A : Type 0} → (S → List ℕ → List ℕ → List ℕ → ValueRead S) → (List ℕ → A → Type 0) → (S → A → S) → (S → Type 0) → Type 0
 ReadsOne {S} {A} item IsOne add Fits = (s : S) (name from rest : List ℕ) → from ≡ codes "<" ++ name ++ rest → Fits s → Gives (item s name from rest) (λ r. One IsOne add Fits s from r.0 r.1)
 
 one_before : {S A : Type 0} (IsOne : List ℕ → A → Type 0) (add : S → A → S) (Fits : S → Type 0) (name : List ℕ) (before : S) (rest front here : List ℕ) (mid : S) (left : List ℕ) (after : S) (behind : List ℕ) →
@@ -176,7 +176,7 @@ one_before {S} {A} IsOne add Fits name before rest front here mid left after beh
       fits = many.fits;
     }
 
-pub children_gives : {S A : Type 0} (item : S → List ℕ → List ℕ → List ℕ → Reading S) (IsOne : List ℕ → A → Type 0) (add : S → A → S) (Fits : S → Type 0) (name : List ℕ) → ReadsOne item IsOne add Fits →
+pub children_gives : {S A : Type 0} (item : S → List ℕ → List ℕ → List ℕ → ValueRead S) (IsOne : List ℕ → A → Type 0) (add : S → A → S) (Fits : S → Type 0) (name : List ℕ) → ReadsOne item IsOne add Fits →
     (fuel : ℕ) (s : S) (rest : List ℕ) → Fits s → Gives (children item name fuel s rest) (λ r. Many IsOne add Fits name false s rest r.0 r.1)
 children_gives {S} {A} item IsOne add Fits name reads zero s rest fits = gives_err _
 children_gives {S} {A} item IsOne add Fits name reads (suc fuel) s rest fits =
@@ -198,7 +198,7 @@ children_gives {S} {A} item IsOne add Fits name reads (suc fuel) s rest fits =
     joined : (r t m n l d : List ℕ) → r ≡ t ++ m → m ≡ codes "</" ++ n ++ l ++ codes ">" ++ d → r ≡ t ++ codes "</" ++ n ++ l ++ codes ">" ++ d
     joined r t m n l d e f = rw (e, f) (simp append_assoc)
 
-pub parent_gives : {S A : Type 0} (item : S → List ℕ → List ℕ → List ℕ → Reading S) (IsOne : List ℕ → A → Type 0) (add : S → A → S) (Fits : S → Type 0) (name : List ℕ) → ReadsOne item IsOne add Fits →
+pub parent_gives : {S A : Type 0} (item : S → List ℕ → List ℕ → List ℕ → ValueRead S) (IsOne : List ℕ → A → Type 0) (add : S → A → S) (Fits : S → Type 0) (name : List ℕ) → ReadsOne item IsOne add Fits →
     (tag : Tag) (s : S) (rest : List ℕ) → Fits s → Gives (parent item name tag s rest) (λ r. Many IsOne add Fits name tag.closed s rest r.0 r.1)
 parent_gives {S} {A} item IsOne add Fits name reads tag s rest fits = go tag.closed
   where

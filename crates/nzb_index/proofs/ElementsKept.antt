@@ -7,9 +7,9 @@ use Rattle.std.proofs.lemmas.List.{length-append}
 use Rattle.nzb_index.specs.declared.error.NzbReason.TheVariants.{WrongTag, DoubleAttribute, NoNumber, BadNumber, BadId}
 use Rattle.nzb_index.specs.declared.error.NzbLimit.{NzbLimit}
 use Rattle.nzb_index.specs.declared.error.NzbLimit.TheVariants as limits
-use Rattle.nzb_index.specs.Markup.{Attribute, Checks, has_attribute, unchecked, is_message_id, trimmed}
+use Rattle.nzb_index.specs.Markup.{Attribute, AttributeChecks, has_attribute, unchecked, is_message_id, trimmed}
 use Rattle.nzb_index.specs.Nzb.{segment_checks, file_checks, segment_count}
-use Rattle.nzb_index.specs.MarkupReading.{Stop, refused, limit, Reading, Tag, stop_at, unexpected, word, behind_white, name_at, between, text_at, quoted_at, attribute_at, tag_rest, tag_at, or_stop, end_tag, leaf, children, parent, only, no_fault, ◌>>=◌}
+use Rattle.nzb_index.specs.MarkupReading.{Stop, refused, limit, ValueRead, Tag, stop_at, unexpected, word, behind_white, name_at, between, text_at, quoted_at, attribute_at, tag_rest, tag_at, or_stop, end_tag, leaf, children, parent, only, no_fault, ◌>>=◌}
 use Rattle.nzb_index.specs.NzbReading.{bad_id, meta_item, group_item, segment_item, file_part, entry_item}
 use Rattle.nzb_index.proofs.Keeps.{Keeps, goes_on, cut, limited, Never, behind, second, same, keeps_bind, keeps_then, keeps_if, stop_keeps, unexpected_keeps, test_keeps, word_keeps, all, part, white_keeps, name_keeps, Edge, nothing, opening, between_keeps}
 use Rattle.nzb_index.proofs.TextsKept.{value_keeps, text_keeps}
@@ -21,7 +21,7 @@ quoted_keeps : (text more : List ℕ) → Keeps (second more) Never more (quoted
 quoted_keeps [] more = cut _
 quoted_keeps (q ∷ text) more = keeps_if (eqb q 34 || eqb q 39) _ _ _ _ _ refl (λ e. value_keeps q (length text) (length (text ++ more)) text more (omega (arith, length-append text more))) (λ e. unexpected_keeps (q ∷ text))
 
-attribute_keeps : (checks : Checks) (earlier : List Attribute) (here more : List ℕ) → Keeps (second more) Never more (attribute_at checks earlier here) (attribute_at checks earlier (here ++ more))
+attribute_keeps : (checks : AttributeChecks) (earlier : List Attribute) (here more : List ℕ) → Keeps (second more) Never more (attribute_at checks earlier here) (attribute_at checks earlier (here ++ more))
 attribute_keeps checks earlier here more =
     keeps_then (name_at here) _ _ _ (name_keeps here more) (λ n.
     keeps_then {shift = same} (cond (has_attribute n.0 earlier) (stop_at here DoubleAttribute) (Ok true)) _ _ _
@@ -46,7 +46,7 @@ same_length a b m = elim (cases_eq (length a) (length b)) [
   | inr n ↦ ne_eqb (length (a ++ m)) (length (b ++ m)) (λ e. n (omega (arith, length-append a m, length-append b m, e))) ∙ sym (ne_eqb (length a) (length b) n)
 ]
 
-tag_rest_keeps : (checks : Checks) (fuel fuel' : ℕ) (earlier : List Attribute) (rest more : List ℕ) → fuel ≤ fuel' → Keeps (second more) Never more (tag_rest checks fuel earlier rest) (tag_rest checks fuel' earlier (rest ++ more))
+tag_rest_keeps : (checks : AttributeChecks) (fuel fuel' : ℕ) (earlier : List Attribute) (rest more : List ℕ) → fuel ≤ fuel' → Keeps (second more) Never more (tag_rest checks fuel earlier rest) (tag_rest checks fuel' earlier (rest ++ more))
 tag_rest_keeps checks zero fuel' earlier rest more l = cut _
 tag_rest_keeps checks (suc fuel) zero earlier rest more l = absurd (omega arith)
 tag_rest_keeps checks (suc fuel) (suc fuel') earlier rest more l = elim (white_keeps rest more) [
@@ -61,7 +61,7 @@ tag_rest_keeps checks (suc fuel) (suc fuel') earlier rest more l = elim (white_k
     over true = cut _
     over false = cut _
 
-pub tag_keeps : (checks : Checks) (rest more : List ℕ) → Keeps (second more) Never more (tag_at checks rest) (tag_at checks (rest ++ more))
+pub tag_keeps : (checks : AttributeChecks) (rest more : List ℕ) → Keeps (second more) Never more (tag_at checks rest) (tag_at checks (rest ++ more))
 tag_keeps checks rest more = tag_rest_keeps checks (length rest) (length (rest ++ more)) [] rest more (omega (arith, length-append rest more))
 
 close_keeps : (text more : List ℕ) → Keeps (behind more) Never more (word (codes ">") (behind_white text)) (word (codes ">") (behind_white (text ++ more)))
@@ -86,20 +86,20 @@ leaf_keeps name known known' tag rest more k = keeps_if tag.closed _ _ _ _ _ ref
 
 -- ---- elements
 
-abbrev KeepsItem : {S : Type 0} → List ℕ → (S → List ℕ → List ℕ → List ℕ → Reading S) → Type 0
+abbrev KeepsItem : {S : Type 0} → List ℕ → (S → List ℕ → List ℕ → List ℕ → ValueRead S) → Type 0
 KeepsItem {S} more item = (s : S) (name from rest : List ℕ) → Keeps (second more) Never more (item s name from rest) (item s name (from ++ more) (rest ++ more))
 
 -- what stands behind white and comments: the end tag, or an element
-abbrev step : {S : Type 0} → (S → List ℕ → List ℕ → List ℕ → Reading S) → List ℕ → ℕ → S → List ℕ → Reading S
+abbrev step : {S : Type 0} → (S → List ℕ → List ℕ → List ℕ → ValueRead S) → List ℕ → ℕ → S → List ℕ → ValueRead S
 step item name fuel s here =
     cond (starts_with nat_eq here (codes "</")) (end_tag name None here >>= λ left. Ok (s, left))
     (word (codes "<") here >>= λ inside. name_at inside >>= λ n. item s n.0 here n.1 >>= λ t. children item name fuel t.0 t.1)
 
-step_edge : {S : Type 0} (item : S → List ℕ → List ℕ → List ℕ → Reading S) (name more : List ℕ) (fuel : ℕ) (s : S) (here : List ℕ) → Edge here → (r : Reading S) → Keeps (second more) Never more (step item name fuel s here) r
+step_edge : {S : Type 0} (item : S → List ℕ → List ℕ → List ℕ → ValueRead S) (name more : List ℕ) (fuel : ℕ) (s : S) (here : List ℕ) → Edge here → (r : ValueRead S) → Keeps (second more) Never more (step item name fuel s here) r
 step_edge item name more fuel s here nothing r = cut _
 step_edge item name more fuel s here opening r = cut _
 
-step_keeps : {S : Type 0} (item : S → List ℕ → List ℕ → List ℕ → Reading S) (name more : List ℕ) → KeepsItem more item → (fuel fuel' : ℕ) (s : S) (here : List ℕ) →
+step_keeps : {S : Type 0} (item : S → List ℕ → List ℕ → List ℕ → ValueRead S) (name more : List ℕ) → KeepsItem more item → (fuel fuel' : ℕ) (s : S) (here : List ℕ) →
     ((t : S) (left : List ℕ) → Keeps (second more) Never more (children item name fuel t left) (children item name fuel' t (left ++ more))) → Keeps (second more) Never more (step item name fuel s here) (step item name fuel' s (here ++ more))
 step_keeps item name more k fuel fuel' s [] again = cut _
 step_keeps item name more k fuel fuel' s (x ∷ []) again = elim (cases_Bool (eqb 60 x)) [
@@ -111,7 +111,7 @@ step_keeps item name more k fuel fuel' s (x ∷ y ∷ t) again = keeps_if (eqb 6
     (λ e. keeps_then (word (codes "<") (x ∷ y ∷ t)) _ _ _ (word_keeps (codes "<") (x ∷ y ∷ t) more) (λ inside. keeps_then (name_at inside) _ _ _ (name_keeps inside more) (λ n.
     keeps_then (item s n.0 (x ∷ y ∷ t) n.1) _ _ _ (k s n.0 (x ∷ y ∷ t) n.1) (λ r. again r.0 r.1))))
 
-children_keeps : {S : Type 0} (item : S → List ℕ → List ℕ → List ℕ → Reading S) (name more : List ℕ) → KeepsItem more item → (fuel fuel' : ℕ) (s : S) (rest : List ℕ) → fuel ≤ fuel' →
+children_keeps : {S : Type 0} (item : S → List ℕ → List ℕ → List ℕ → ValueRead S) (name more : List ℕ) → KeepsItem more item → (fuel fuel' : ℕ) (s : S) (rest : List ℕ) → fuel ≤ fuel' →
     Keeps (second more) Never more (children item name fuel s rest) (children item name fuel' s (rest ++ more))
 children_keeps {S} item name more k zero fuel' s rest l = cut _
 children_keeps {S} item name more k (suc fuel) zero s rest l = absurd (omega arith)
@@ -119,7 +119,7 @@ children_keeps {S} item name more k (suc fuel) (suc fuel') s rest l =
     keeps_bind (between rest) _ _ _ (between_keeps unexpected more (λ t. unexpected_keeps t) refl (suc (length rest)) (suc (length (rest ++ more))) rest (omega (arith, length-append rest more))) (step_edge item name more fuel s)
     (λ here. step_keeps item name more k fuel fuel' s here (λ t left. children_keeps item name more k fuel fuel' t left (omega arith)))
 
-pub parent_keeps : {S : Type 0} (item : S → List ℕ → List ℕ → List ℕ → Reading S) (name more : List ℕ) → KeepsItem more item → (tag : Tag) (s : S) (rest : List ℕ) → Keeps (second more) Never more (parent item name tag s rest) (parent item name tag s (rest ++ more))
+pub parent_keeps : {S : Type 0} (item : S → List ℕ → List ℕ → List ℕ → ValueRead S) (name more : List ℕ) → KeepsItem more item → (tag : Tag) (s : S) (rest : List ℕ) → Keeps (second more) Never more (parent item name tag s rest) (parent item name tag s (rest ++ more))
 parent_keeps {S} item name more k tag s rest = keeps_if tag.closed _ _ _ _ _ refl (λ c. goes_on (s, rest)) (λ c. children_keeps item name more k (length rest) (length (rest ++ more)) s rest (omega (arith, length-append rest more)))
 
 -- ---- the elements of an NZB

@@ -3,8 +3,8 @@ use Rattle.std.proofs.Common.{◌≡◌, ℕ, zero, suc, ◌≤◌, List, [], �
 use Rattle.std.specs.Prelude.{codes, fold}
 use Rattle.std.specs.List.{concat}
 use Rattle.std.proofs.lemmas.List.{length-append}
-use Rattle.nzb_index.specs.Markup.{IsWhite, IsName, IsText, IsBetween, AreElements, trimmed}
-use Rattle.nzb_index.specs.MarkupReading.{Stop, Reading, Tag, unexpected, leaf, between, children, parent}
+use Rattle.nzb_index.specs.Markup.{IsWhite, IsMarkupName, IsElementText, IsBetween, AreElements, trimmed}
+use Rattle.nzb_index.specs.MarkupReading.{Stop, ValueRead, Tag, unexpected, leaf, between, children, parent}
 use Rattle.nzb_index.proofs.ElementsFound.{Content, none, some}
 use Rattle.nzb_index.proofs.WordsRead.{NoName, name_back, between_back, Stops, stops_back}
 use Rattle.nzb_index.proofs.TextsRead.{gave, text_back, text_long, raw_of, bytes_of}
@@ -12,11 +12,11 @@ use Rattle.nzb_index.proofs.TagsRead.{end_tag_back, name_other}
 
 -- ---- elements with a text
 
-no_text : (text : List ℕ) → IsText [] text → text ≡ []
+no_text : (text : List ℕ) → IsElementText [] text → text ≡ []
 no_text text (whole, ([], all, e, f), g) = g ∙ ap (λ (t : List ℕ). trimmed t) f
 no_text text (whole, (p ∷ pieces, all, e, f), g) = absurd (omega (arith, text_long p.0 p.1 all.0, ap length e, length-append p.0 (raw_of pieces)))
 
-pub leaf_back : (name : List ℕ) (known : List ℕ → Option Stop) (tag : Tag) (mid inside behind text : List ℕ) → IsName name → Content name tag.closed mid inside behind → IsText inside text → known text ≡ None → leaf name known tag mid ≡ gave text behind
+pub leaf_back : (name : List ℕ) (known : List ℕ → Option Stop) (tag : Tag) (mid inside behind text : List ℕ) → IsMarkupName name → Content name tag.closed mid inside behind → IsElementText inside text → known text ≡ None → leaf name known tag mid ≡ gave text behind
 leaf_back name known tag mid inside behind text n (none c i m) t k =
     let nothing : text ≡ [] = no_text text (rw i at t) in
     let unknown : known [] ≡ None = rw nothing at k in
@@ -33,32 +33,32 @@ leaf_back name known tag mid inside behind text n (some last c w m) (whole, (pie
 -- ---- elements in an element
 
 -- one element is read again, and added
-pub record ReadOne {S A : Type 0} (item : S → List ℕ → List ℕ → List ℕ → Reading S) (add : S → A → S) (before : S) (value : A) (one rest : List ℕ) : Type 0 where
+pub record ReadOne {S A : Type 0} (item : S → List ℕ → List ℕ → List ℕ → ValueRead S) (add : S → A → S) (before : S) (value : A) (one rest : List ℕ) : Type 0 where
   pub name : List ℕ
   pub left : List ℕ
   pub text_is : one ++ rest ≡ 60 ∷ (name ++ left)
-  pub is_name : IsName name
+  pub is_name : IsMarkupName name
   pub ends : NoName left
   pub read : item before name (60 ∷ (name ++ left)) left ≡ Ok (add before value, rest)
 
-abbrev pub ReadsBack : {S A : Type 0} → (S → List ℕ → List ℕ → List ℕ → Reading S) → (List ℕ → A → Type 0) → (S → A → S) → (S → Type 0) → Type 0
+abbrev pub ReadsBack : {S A : Type 0} → (S → List ℕ → List ℕ → List ℕ → ValueRead S) → (List ℕ → A → Type 0) → (S → A → S) → (S → Type 0) → Type 0
 ReadsBack {S} {A} item IsOne add Fits = (s : S) (x : A) (one rest : List ℕ) → IsOne one x → Fits (add s x) → ReadOne item add s x one rest
 
 fits_first : {S A : Type 0} (add : S → A → S) (Fits : S → Type 0) → ((s : S) (x : A) → Fits (add s x) → Fits s) → (xs : List A) (s : S) → Fits (fold add s xs) → Fits s
 fits_first {S} {A} add Fits down [] s h = h
 fits_first {S} {A} add Fits down (x ∷ xs) s h = down s x (fits_first add Fits down xs (add s x) h)
 
-pub tag_stops : (name left : List ℕ) → IsName name → Stops (60 ∷ (name ++ left))
+pub tag_stops : (name left : List ℕ) → IsMarkupName name → Stops (60 ∷ (name ++ left))
 tag_stops name left n = record { no_white = refl; no_comment = name_other 33 name left refl n }
 
 pub between_stops : (front rest : List ℕ) → IsBetween front → Stops rest → between (front ++ rest) ≡ Ok rest
 between_stops front rest (pieces, e, all) s = rw e (between_back unexpected rest (Ok rest) (stops_back unexpected rest s) pieces (length (concat pieces ++ rest)) all (omega (arith, length-append (concat pieces) rest)))
 
-one_long : {S A : Type 0} (item : S → List ℕ → List ℕ → List ℕ → Reading S) (add : S → A → S) (s : S) (x : A) (one : List ℕ) → ReadOne item add s x one [] → 1 ≤ length one
+one_long : {S A : Type 0} (item : S → List ℕ → List ℕ → List ℕ → ValueRead S) (add : S → A → S) (s : S) (x : A) (one : List ℕ) → ReadOne item add s x one [] → 1 ≤ length one
 one_long item add s x one r = omega (arith, ap length r.text_is, length-append one [])
 
-pub children_back : {S A : Type 0} (item : S → List ℕ → List ℕ → List ℕ → Reading S) (IsOne : List ℕ → A → Type 0) (add : S → A → S) (Fits : S → Type 0) (name : List ℕ) → ReadsBack item IsOne add Fits →
-    ((s : S) (x : A) → Fits (add s x) → Fits s) → IsName name → (last behind : List ℕ) → IsWhite last → (xs : List A) (fuel : ℕ) (s : S) (inside : List ℕ) → AreElements IsOne inside xs → Fits (fold add s xs) →
+pub children_back : {S A : Type 0} (item : S → List ℕ → List ℕ → List ℕ → ValueRead S) (IsOne : List ℕ → A → Type 0) (add : S → A → S) (Fits : S → Type 0) (name : List ℕ) → ReadsBack item IsOne add Fits →
+    ((s : S) (x : A) → Fits (add s x) → Fits s) → IsMarkupName name → (last behind : List ℕ) → IsWhite last → (xs : List A) (fuel : ℕ) (s : S) (inside : List ℕ) → AreElements IsOne inside xs → Fits (fold add s xs) →
     length (inside ++ (60 ∷ 47 ∷ (name ++ (last ++ 62 ∷ behind)))) ≤ fuel → children item name fuel s (inside ++ (60 ∷ 47 ∷ (name ++ (last ++ 62 ∷ behind)))) ≡ Ok (fold add s xs, behind)
 children_back {S} {A} item IsOne add Fits name reads down n last behind w xs zero s inside are fits l = absurd (omega (arith, length-append inside (60 ∷ 47 ∷ (name ++ (last ++ 62 ∷ behind)))))
 children_back {S} {A} item IsOne add Fits name reads down n last behind w [] (suc fuel) s inside are fits l =
@@ -78,15 +78,15 @@ children_back {S} {A} item IsOne add Fits name reads down n last behind w (x ∷
     shorter : (i b o r t : List ℕ) → i ≡ b ++ o ++ r → 1 ≤ length o → length (i ++ t) ≤ suc fuel → length (r ++ t) ≤ fuel
     shorter i b o r t e h l = omega (arith, ap length e, length-append i t, length-append (b ++ o) r, length-append b o, length-append r t)
 
-no_elements : {S A : Type 0} (item : S → List ℕ → List ℕ → List ℕ → Reading S) (IsOne : List ℕ → A → Type 0) (add : S → A → S) (Fits : S → Type 0) → ReadsBack item IsOne add Fits →
+no_elements : {S A : Type 0} (item : S → List ℕ → List ℕ → List ℕ → ValueRead S) (IsOne : List ℕ → A → Type 0) (add : S → A → S) (Fits : S → Type 0) → ReadsBack item IsOne add Fits →
     ((s : S) (x : A) → Fits (add s x) → Fits s) → (s : S) (xs : List A) → AreElements IsOne [] xs → Fits (fold add s xs) → fold add s xs ≡ s
 no_elements {S} {A} item IsOne add Fits reads down s [] are fits = refl
 no_elements {S} {A} item IsOne add Fits reads down s (x ∷ xs) (before, one, rest, e, b, is, are) fits =
     let long = one_long item add s x one (reads s x one [] is (fits_first add Fits down xs (add s x) fits)) in
     absurd (omega (arith, ap length e, length-append (before ++ one) rest, length-append before one, long))
 
-pub parent_back : {S A : Type 0} (item : S → List ℕ → List ℕ → List ℕ → Reading S) (IsOne : List ℕ → A → Type 0) (add : S → A → S) (Fits : S → Type 0) (name : List ℕ) → ReadsBack item IsOne add Fits →
-    ((s : S) (x : A) → Fits (add s x) → Fits s) → IsName name → (tag : Tag) (s : S) (mid inside behind : List ℕ) (xs : List A) → Content name tag.closed mid inside behind → AreElements IsOne inside xs → Fits (fold add s xs) →
+pub parent_back : {S A : Type 0} (item : S → List ℕ → List ℕ → List ℕ → ValueRead S) (IsOne : List ℕ → A → Type 0) (add : S → A → S) (Fits : S → Type 0) (name : List ℕ) → ReadsBack item IsOne add Fits →
+    ((s : S) (x : A) → Fits (add s x) → Fits s) → IsMarkupName name → (tag : Tag) (s : S) (mid inside behind : List ℕ) (xs : List A) → Content name tag.closed mid inside behind → AreElements IsOne inside xs → Fits (fold add s xs) →
     parent item name tag s mid ≡ Ok (fold add s xs, behind)
 parent_back {S} {A} item IsOne add Fits name reads down n tag s mid inside behind xs (none c i m) are fits =
     let same = no_elements item IsOne add Fits reads down s xs (rw i at are) fits in

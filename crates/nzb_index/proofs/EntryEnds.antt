@@ -8,9 +8,9 @@ use Rattle.numbers.specs.Numbers.{decimal_of, within, or_zero}
 use Rattle.nntp_lines.specs.MessageId.{IsMessageId, is_id_byte as id_byte}
 use Rattle.nzb_index.specs.declared.index.Segment.{Segment}
 use Rattle.nzb_index.specs.declared.index.FileEntry.{FileEntry}
-use Rattle.nzb_index.specs.Markup.{Attribute, Checks, attribute, has_attribute, or_nothing, number_of, is_id_byte, is_message_id}
+use Rattle.nzb_index.specs.Markup.{Attribute, AttributeChecks, attribute, has_attribute, or_nothing, number_of, is_id_byte, is_message_id}
 use Rattle.nzb_index.specs.MarkupReading.{Tag, leaf, tag_at, parent}
-use Rattle.nzb_index.specs.Nzb.{file_checks, segment_checks, IsListed}
+use Rattle.nzb_index.specs.Nzb.{file_checks, segment_checks, Lists}
 use Rattle.nzb_index.specs.NzbReading.{bad_id, segment_item, file_part}
 use Rattle.nzb_index.specs.Elements.{bare}
 use Rattle.nzb_index.specs.Entries.{file_at}
@@ -23,13 +23,13 @@ use Rattle.limits.specs.declared.TheConstants.{MOST_SEGMENTS}
 -- ---- numbers
 
 -- the value of an attribute of a tag that was read passes its check
-checked : (checks : Checks) (name value rest : List ℕ) (tag : Tag) (behind : List ℕ) → tag_at checks rest ≡ Ok (tag, behind) → attribute name tag.attributes ≡ Some value → checks name value ≡ true
+checked : (checks : AttributeChecks) (name value rest : List ℕ) (tag : Tag) (behind : List ℕ) → tag_at checks rest ≡ Ok (tag, behind) → attribute name tag.attributes ≡ Some value → checks name value ≡ true
 checked checks name value rest tag behind e h =
     let t = (tag_gives checks rest).given (tag, behind) e in
     value_fits checks name value [] t.text t.attributes t.are_attributes (ap (λ (l : List Attribute). attribute name l) (sym t.all_are) ∙ h)
 
 -- a number of a tag is read up to the greatest that its check allows
-pub number_read : (checks : Checks) (name rest : List ℕ) (tag : Tag) (behind : List ℕ) (high : ℕ) → tag_at checks rest ≡ Ok (tag, behind) → ((value : List ℕ) → checks name value ≡ true → is_some (within 0 high (decimal_of value)) ≡ true) →
+pub number_read : (checks : AttributeChecks) (name rest : List ℕ) (tag : Tag) (behind : List ℕ) (high : ℕ) → tag_at checks rest ≡ Ok (tag, behind) → ((value : List ℕ) → checks name value ≡ true → is_some (within 0 high (decimal_of value)) ≡ true) →
     or_zero (within 0 high (decimal_of (or_nothing (attribute name tag.attributes)))) ≡ number_of name tag.attributes
 number_read checks name rest tag behind high e fits = go (attribute name tag.attributes) refl (λ value h. checked checks name value rest tag behind e h)
   where
@@ -83,7 +83,7 @@ pub file_on : (earlier : ℕ) (rest : List ℕ) (tag : Tag) (mid : List ℕ) (st
 file_on earlier rest tag mid start t p d s g e = rw t (rw (← p, ← d, ← s) (rw (← g, ← e) refl))
 
 pub file_few : (earlier : ℕ) (closed : Bool) (rest : List ℕ) (start file : FileEntry) (behind : List ℕ) → earlier ≤ MOST_SEGMENTS → start.segments ≡ [] → parent (file_part earlier) (codes "file") (bare closed) start rest ≡ Ok (file, behind) → earlier + length file.segments ≤ MOST_SEGMENTS
-file_few earlier closed rest start file behind l e h = ((parent_gives (file_part earlier) IsListed listed (FewInFile earlier) (codes "file") (part_reads earlier) (bare closed) start rest few).given (file, behind) h).fits
+file_few earlier closed rest start file behind l e h = ((parent_gives (file_part earlier) Lists listed (FewInFile earlier) (codes "file") (part_reads earlier) (bare closed) start rest few).given (file, behind) h).fits
   where
     few : earlier + length start.segments ≤ MOST_SEGMENTS
     few = omega (arith, l, ap length e)

@@ -5,7 +5,7 @@ use Rattle.std.specs.List.{starts_with, prefix_len}
 use Rattle.std.proofs.lemmas.Bool.{eqb-false}
 use Rattle.std.proofs.lemmas.List.{take-append-drop, length-take, append-nil}
 use Rattle.std.proofs.lemmas.List.Sums.{prefix_len-le-length}
-use Rattle.nzb_index.specs.Markup.{is_white, is_name_byte, IsWhite, IsName, IsBetween, IsComment, EndsAtFirst}
+use Rattle.nzb_index.specs.Markup.{is_white, is_name_byte, IsWhite, IsMarkupName, IsBetween, IsMarkupComment, EndsAtFirst}
 use Rattle.nzb_index.specs.MarkupReading.{Stop, word, up_to, unexpected, behind_white, between_or, between, name_at, ◌>>=◌}
 use Rattle.nzb_index.proofs.Words.{word_found, up_to_found, white_front, starts_front}
 use Rattle.nzb_index.proofs.TextsFound.{front_passes}
@@ -63,7 +63,7 @@ white_taken text = record { front = take (prefix_len is_white text) text; text_i
 pub some_taken : (k : ℕ) (text : List ℕ) → eqb k (length text) ≡ false → eqb k 0 ≡ false → k ≤ length text → take k text ≢ []
 some_taken k text h z l empty = let not_zero = eqb-false k 0 z in absurd (omega (arith, ap length empty, length-take k text, not_zero))
 
-pub between_piece : (front text : List ℕ) → IsWhite front ⊎ IsComment front → IsBetween text → IsBetween (front ++ text)
+pub between_piece : (front text : List ℕ) → IsWhite front ⊎ IsMarkupComment front → IsBetween text → IsBetween (front ++ text)
 between_piece front text h (pieces, e, all) = (front ∷ pieces, ap (λ (t : List ℕ). front ++ t) e, (h, all))
 
 -- White and comments are taken, and then another byte stands, or `otherwise` reads on behind `<!`.
@@ -107,7 +107,7 @@ between_gives text = gives_as _ (between_or_gives unexpected (λ more rest. ⊥)
 
 pub record Named (text name rest : List ℕ) : Type 0 where
   pub text_is : text ≡ name ++ rest
-  pub is_name : IsName name
+  pub is_name : IsMarkupName name
 
 pub name_gives : (text : List ℕ) → Gives (name_at text) (λ n. Named text n.0 n.1)
 name_gives text =

@@ -12,7 +12,7 @@ use Rattle.nzb_index.specs.declared.index.Segment.{Segment}
 use Rattle.nzb_index.specs.declared.index.FileEntry.{FileEntry}
 use Rattle.nzb_index.specs.declared.index.Index.{Index}
 use Rattle.nzb_index.specs.Markup.{attribute, or_nothing, number_of, unchecked, is_message_id, is_white, is_control, IsBetween}
-use Rattle.nzb_index.specs.Nzb.{segment_checks, file_checks, IsMeta, IsGroup, IsSegment, Listed, groups, segments, IsListed, groups_in, segments_in, Entry, head, file, IsEntry, metas_in, files_in, IsRoot, IsMark, IsDeclaration, IsDocumentType, segment_count, IsNzb}
+use Rattle.nzb_index.specs.Nzb.{segment_checks, file_checks, IsMeta, IsGroup, IsSegment, Listed, groups, segments, Lists, groups_in, segments_in, Entry, head, file, IsEntry, metas_in, files_in, IsMark, IsDeclaration, IsDocumentType, segment_count, IsNzb}
 use Rattle.nzb_index.specs.MarkupReading.{Stop, refused, limit, word, name_at, tag_at, leaf, no_fault, between, between_or, one_white}
 use Rattle.nzb_index.specs.NzbReading.{Refusal, past, bad_id, meta_item, group_item, segment_item, file_part, entry_item, with_file, type_end, behind_type, behind_mark, behind_declaration, nothing_behind, index_at, nzb_of, with_place}
 use Rattle.nzb_index.proofs.Gives.{Gives, gives_ok, gives_err, gives_bind, gives_if, gives_unexpected, gives_as, gives_test, word_gives, between_or_gives, Between, between_gives, up_to_gives, name_gives}
@@ -101,7 +101,7 @@ all_listed (segments ss ∷ parts) f = all_listed parts (listed f (segments ss))
 abbrev pub FewInFile : ℕ → FileEntry → Type 0
 FewInFile earlier f = FewSegments earlier f.segments
 
-pub part_reads : (earlier : ℕ) → ReadsOne (file_part earlier) IsListed listed (FewInFile earlier)
+pub part_reads : (earlier : ℕ) → ReadsOne (file_part earlier) Lists listed (FewInFile earlier)
 part_reads earlier f name from rest e fits = gives_if (bytes_eq name (codes "groups")) _ _
     (λ same. gives_bind (tag_at unchecked rest) _ (tag_gives unchecked rest) (λ tag tagged.
     gives_bind _ _ (parent_gives group_item IsGroup push Any (codes "groups") group_reads tag.0 f.groups tag.1 tt) (λ g many.
@@ -171,7 +171,7 @@ entry_reads i name from rest e fits = gives_if (bytes_eq name (codes "head")) _ 
       groups = [];
       segments = [];
     } in
-    gives_bind _ _ (parent_gives (file_part (segment_count i)) IsListed listed (FewInFile (segment_count i)) (codes "file") (part_reads (segment_count i)) tag.0 start tag.1 (omega (arith, fits))) (λ f many.
+    gives_bind _ _ (parent_gives (file_part (segment_count i)) Lists listed (FewInFile (segment_count i)) (codes "file") (part_reads (segment_count i)) tag.0 start tag.1 (omega (arith, fits))) (λ f many.
     let el = element file_checks (codes "file") from rest tag.0 tag.1 many.inside f.1 (named_from name (codes "file") from rest same e) tagged many.content in
     let made : f.0 ≡ record start { groups = flat_map groups_in many.values; segments = flat_map segments_in many.values } = many.after_is ∙ all_listed many.values start in
     gives_ok _ (record {
@@ -205,7 +205,7 @@ declaration_gives text = gives_if (starts_with nat_eq text (codes "<?")) _ _
     joined : (t n i c r : List ℕ) (w : ℕ) → t ≡ codes "<?xml" ++ n → n ≡ w ∷ i → i ≡ c ++ r → t ≡ (codes "<?xml" ++ w ∷ c) ++ r
     joined t n i c r w e1 e2 e3 = rw (e1, e2, e3) refl
 
-type_end_gives : (text : List ℕ) → Gives (type_end text) (λ rest. (inside : List ℕ) × (text ≡ inside ++ codes ">" ++ rest) × (list_any (λ b. eqb b 62 || eqb b 91 || is_control b) inside ≡ false))
+pub type_end_gives : (text : List ℕ) → Gives (type_end text) (λ rest. (inside : List ℕ) × (text ≡ inside ++ codes ">" ++ rest) × (list_any (λ b. eqb b 62 || eqb b 91 || is_control b) inside ≡ false))
 type_end_gives [] = gives_err _
 type_end_gives (x ∷ text) =
     gives_if (eqb x 62) _ _ (λ e. gives_ok _ ([], ap (λ (y : ℕ). y ∷ text) (eqb-true x 62 e), refl)) (λ e.
@@ -251,29 +251,12 @@ nothing_gives : (text : List ℕ) → Gives (nothing_behind text) (λ rest. text
 nothing_gives [] = gives_ok _ refl
 nothing_gives (x ∷ rest) = gives_bind (word (codes "<!--") (x ∷ rest)) _ (word_gives (codes "<!--") (x ∷ rest)) (λ r e. gives_unexpected r)
 
--- the text's parts
-pub record Whole (text : List ℕ) (i : Index) : Type 0 where
-  pub mark : List ℕ
-  pub declaration : List ℕ
-  pub between : List ℕ
-  pub document_type : List ℕ
-  pub root : List ℕ
-  pub behind : List ℕ
-  pub text_is : text ≡ mark ++ declaration ++ between ++ document_type ++ root ++ behind
-  pub is_mark : IsMark mark
-  pub is_declaration : IsDeclaration declaration
-  pub is_between : IsBetween between
-  pub is_document_type : IsDocumentType document_type
-  pub is_root : IsRoot root i
-  pub is_behind : IsBetween behind
-  pub few : Few i
-
 no_index : Index
 no_index = record { metas = []; files = [] }
 
-pub index_gives : (text : List ℕ) → Gives (index_at text) (Whole text)
+pub index_gives : (text : List ℕ) → length text ≤ MOST_TEXT_BYTES → Gives (index_at text) (IsNzb text)
 unfolding no_index
-index_gives text =
+index_gives text short =
     gives_bind (behind_mark text) _ (mark_gives text) (λ marked m.
     gives_bind (behind_declaration marked) _ (declaration_gives marked) (λ declared d.
     gives_bind (between_or behind_type (suc (length text)) declared) _ (between_or_gives behind_type Typed type_gives (suc (length text)) declared) (λ here b.
@@ -301,7 +284,9 @@ index_gives text =
       is_document_type = t.is_document_type;
       is_root = (tag.0.attributes, many.inside, many.values, el.is_element, many.are_elements, ap (λ (x : Index). x.metas) made, ap (λ (x : Index). x.files) made);
       is_behind = last.2;
-      few = many.fits;
+      short = short;
+      few_files = many.fits.0;
+      few_segments = many.fits.1;
     })))))))))))
   where
     joined : (t m a d b w y h r i l e : List ℕ) → t ≡ m ++ a → a ≡ d ++ b → b ≡ w ++ y ++ h → h ≡ r ++ i → i ≡ l ++ e → e ≡ [] → t ≡ m ++ d ++ w ++ y ++ r ++ l
@@ -312,26 +297,7 @@ pub nzb_found : (text : List ℕ) (i : Index) → nzb_of text ≡ Ok i → IsNzb
 unfolding nzb_of
 nzb_found text i e = elim (cases_Bool (nat_lt MOST_TEXT_BYTES (length text))) [
   | inl long ↦ absurd (let f : stopped ≡ Ok i = rw long at e in cc)
-  | inr short ↦
-      let w = (index_gives text).given i (placed (length text) (index_at text) (rw short at e)) in
-      record {
-        mark = w.mark;
-        declaration = w.declaration;
-        between = w.between;
-        document_type = w.document_type;
-        root = w.root;
-        behind = w.behind;
-        text_is = w.text_is;
-        is_mark = w.is_mark;
-        is_declaration = w.is_declaration;
-        is_between = w.is_between;
-        is_document_type = w.is_document_type;
-        is_root = w.is_root;
-        is_behind = w.is_behind;
-        short = ltb-false MOST_TEXT_BYTES (length text) short;
-        few_files = w.few.0;
-        few_segments = w.few.1;
-      }
+  | inr short ↦ (index_gives text (ltb-false MOST_TEXT_BYTES (length text) short)).given i (placed (length text) (index_at text) (rw short at e))
 ]
   where
     stopped : Result Index Refusal

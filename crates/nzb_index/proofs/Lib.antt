@@ -13,6 +13,10 @@ pub mod Stops
 pub mod ValueStops
 pub mod ReasonsFound
 pub mod ReasonsLaw
+pub mod FaultsRead
+pub mod ElementFaults
+pub mod NzbFaults
+pub mod ReasonsAnswered
 pub mod Rows
 pub mod TagsFound
 pub mod TagsRead
@@ -34,3 +38,4 @@ pub mod TrimmedText
 pub mod Children
 pub mod EntryEnds
 pub mod IndexEnds
+pub mod ValidTexts

@@ -12,7 +12,7 @@ use Rattle.nzb_index.specs.declared.pieces.Piece.{Piece}
 use Rattle.nzb_index.specs.declared.pieces.Piece.TheVariants.{Goes, Ends}
 use Rattle.nzb_index.specs.Markup.{is_white, is_control}
 use Rattle.nzb_index.specs.MarkupReading.{Stop, stop_at, unexpected, word, up_to, name_at, reference_at, with_front, value_at, text_at, ◌>>=◌}
-use Rattle.nzb_index.specs.Readers.{Fails, unexpected_at, GoesOn, Steps, FailsAt, ReadsPiece, stands_in_value, stands_in_text}
+use Rattle.nzb_index.specs.Readers.{Fails, unexpected_at, ReadsOn, Steps, FailsAt, ReadsPiece, stands_in_value, stands_in_text}
 use Rattle.nzb_index.proofs.Places.{here, over, unexpected_fails}
 use Rattle.nzb_index.proofs.Betweens.{fails_as, fails_then}
 
@@ -57,7 +57,7 @@ reading_goes reader text bytes at i new j p s is h = go (subst (λ (x : Piece). 
       },
     )
       where
-        next : (fuel : ℕ) (m : List ℕ) → new ≡ bytes ++ m → Steps reader text i j m → GoesOn reader text at i bytes fuel → GoesOn reader text at j new fuel
+        next : (fuel : ℕ) (m : List ℕ) → new ≡ bytes ++ m → Steps reader text i j m → ReadsOn reader text at i bytes fuel → ReadsOn reader text at j new fuel
         next fuel m f st g = let n = st g.left g.fits in record {
           left = n.left;
           fits = n.fits;
@@ -166,7 +166,7 @@ value_reference quote text bytes new more at end o amp l w e r = (
   (
     more,
     e,
-    λ fuel fits. with_fuel (λ f. GoesOn (value_at quote) text at end more f) text at fuel o.within fits (λ left fits. record {
+    λ fuel fits. with_fuel (λ f. ReadsOn (value_at quote) text at end more f) text at fuel o.within fits (λ left fits. record {
       left = left;
       fits = omega (arith, fits, length-drop end text, length-drop (at + 1) text, l);
       reads = value_more quote text at left o ∙ rw (eq-eqb (get_or text at 0) 38 amp) (rw r refl);
@@ -188,7 +188,7 @@ value_return quote text bytes at o cr lf = (
   (
     [],
     sym (append_nil bytes),
-    λ fuel fits. with_fuel (λ f. GoesOn (value_at quote) text at (at + 1) [] f) text at fuel o.within fits (λ left fits. record {
+    λ fuel fits. with_fuel (λ f. ReadsOn (value_at quote) text at (at + 1) [] f) text at fuel o.within fits (λ left fits. record {
       left = left;
       fits = fits;
       reads = value_more quote text at left o ∙ rw cr (rw lf (sym (front_nothing (value_at quote left (drop (at + 1) text)))));
@@ -207,7 +207,7 @@ value_white quote text bytes new at o amp no_pair white e = (
   (
     32 ∷ [],
     e,
-    λ fuel fits. with_fuel (λ f. GoesOn (value_at quote) text at (at + 1) (32 ∷ []) f) text at fuel o.within fits (λ left fits. record {
+    λ fuel fits. with_fuel (λ f. ReadsOn (value_at quote) text at (at + 1) (32 ∷ []) f) text at fuel o.within fits (λ left fits. record {
       left = left;
       fits = fits;
       reads = value_more quote text at left o ∙ rw (ne_eqb (get_or text at 0) 38 amp, no_line_end no_pair, white) refl;
@@ -263,7 +263,7 @@ text_reference text bytes new more at end within amp l w e r = (
   (
     more,
     e,
-    λ fuel fits. with_fuel (λ f. GoesOn text_at text at end more f) text at fuel within fits (λ left fits. record {
+    λ fuel fits. with_fuel (λ f. ReadsOn text_at text at end more f) text at fuel within fits (λ left fits. record {
       left = left;
       fits = omega (arith, fits, length-drop end text, length-drop (at + 1) text, l);
       reads = text_amp left ∙ rw r refl;
@@ -338,7 +338,7 @@ comment_goes text at inside end l less n s a b w e f = (
   (
     [],
     refl,
-    λ fuel fits. with_fuel (λ k. GoesOn text_at text at end [] k) text at fuel l fits (λ left fits. record {
+    λ fuel fits. with_fuel (λ k. ReadsOn text_at text at end [] k) text at fuel l fits (λ left fits. record {
       left = left;
       fits = omega (arith, fits, length-drop end text, length-drop (at + 1) text, a, b);
       reads = comment_more text at left (record { within = l; less = less; no_end = n; opens = s }) ∙ rw e (rw f (sym (front_nothing (text_at left (drop end text)))));

@@ -1,15 +1,19 @@
 -- Worked rows of NZB texts, which compute.
-use Rattle.std.proofs.Common.{inl, false, ◌≡◌, ℕ, ◌+◌, ◌<◌, ◌^◌, lit<, map, List, [], ◌∷◌, ◌++◌, Ok, Err, refl}
+use Rattle.std.proofs.Common.{inl, inr, ◌⊎◌, arith, false, ◌≡◌, ℕ, ◌+◌, ◌<◌, ◌^◌, lit<, map, List, [], ◌∷◌, ◌++◌, Ok, Err, refl}
 use Rattle.std.specs.Prelude.{codes, decimal}
 use Rattle.std.specs.Int.Digits.{digits_of}
 use Rattle.std.proofs.lemmas.Fmt.{decimal-digits_of}
 use Rattle.nzb_index.specs.declared.error.NzbReason.TheVariants.{Ended, Unexpected, BadReference, WrongTag, DoubleAttribute, NoNumber, BadId, Subset}
 use Rattle.nzb_index.specs.Canonical.{nzb_text, segment_text, file_text}
 use Rattle.nzb_index.specs.declared.index.Index.{Index}
-use Rattle.nzb_index.specs.NzbReading.{nzb_of, refused_at}
+use Rattle.nzb_index.specs.declared.error.NzbLimit.{NzbLimit}
+use Rattle.nzb_index.specs.NzbReading.{nzb_of, refused_at, past}
+use Rattle.nzb_index.specs.Refusal.{IsTextRefused, IsCutShort}
+use Rattle.nzb_index.proofs.ReasonsAnswered.{reasons_told}
 use Rattle.nzb_index.specs.Markup.{unchecked, IsBetween}
 use Rattle.nzb_index.specs.Nzb.{file_checks}
-use Rattle.nzb_index.specs.Reasons.{HasReason, NameEnds, StartTag, end_in_content, in_one, parent_content, in_file, root_name, root_inside, in_nzb, subset as open_type}
+use Rattle.nzb_index.specs.Broken.{NameEnds, no_comment}
+use Rattle.nzb_index.specs.Reasons.{HasReason, StartTag, end_in_content, in_one, parent_content, no_tag, in_file, root_name, root_inside, in_nzb, behind_root, subset as open_type}
 
 wrong_tag : nzb_of (codes "<nzb><file></nzb>") ≡ Err (refused_at 11 WrongTag)
 unfolding nzb_of
@@ -152,3 +156,35 @@ has_other_root = (
 -- declarations in the document type
 has_subset : HasReason (codes "<!DOCTYPE nzb [") 14 Subset
 has_subset = (codes "[", refl, open_type [] [] [] (codes "<!DOCTYPE nzb ") [] refl (inl refl) (inl refl) no_text (32, codes "nzb ", refl, refl, refl))
+
+-- a byte behind the root
+has_garbage : HasReason (codes "<nzb/>x") 6 Unexpected
+has_garbage = (
+  codes "x",
+  refl,
+  behind_root [] [] [] [] (codes "<nzb/>") [] (codes "x") (codes "x") (record { metas = []; files = [] }) refl (inl refl) (inl refl) no_text (inl refl)
+      ([], [], [], record { attribute_text = []; white = []; are_attributes = refl; is_white = refl; text_is = inl (refl, refl) }, no_text, refl, refl) no_text
+      (no_comment (codes "x") (record { byte = 120; more = []; here_is = refl; is_other = refl })
+      (record { begun = []; next = 60; missing = codes "!--"; word_is = refl; rest_is = refl; other = record { byte = 120; more = []; here_is = refl; is_other = refl } })),
+)
+
+-- a byte between elements
+has_text_between : HasReason (codes "<nzb>x") 5 Unexpected
+has_text_between = (
+  codes "x",
+  refl,
+  in_nzb [] [] [] [] (codes "<nzb>x") (codes "x") Unexpected refl (inl refl) (inl refl) no_text (inl refl)
+      (root_inside (codes "x") Unexpected (parent_content [] (codes "x") (codes "x") Unexpected
+      (record { attribute_text = []; white = []; from_is = refl; are_attributes = refl; is_white = refl })
+      (no_tag [] (codes "x") [] refl no_text (record { byte = 120; more = []; here_is = refl; is_other = refl })))),
+)
+
+-- no other reason is had at that place: a reader that refuses every text at its first byte is none of this table
+no_other_reason : HasReason (codes "<a>") 0 Unexpected → ⊥
+unfolding nzb_of
+no_other_reason h = go (reasons_told (codes "<a>") 0 Unexpected (omega arith) h)
+  where
+    go : IsTextRefused (codes "<a>") (refused_at 0 Unexpected) ⊎ ((passed : NzbLimit) × IsTextRefused (codes "<a>") (past passed)) ⊎ ((Unexpected ≡ BadReference) × IsCutShort (codes "<a>")) → ⊥
+    go (inl e) = cc
+    go (inr (inl (passed, e))) = cc
+    go (inr (inr (b, e))) = cc

@@ -1,5 +1,5 @@
 -- Start tags over a slice.
-use Rattle.std.proofs.Common.{◌≡◌, ◌≢◌, ℕ, zero, suc, ◌+◌, ◌-◌, ◌<◌, ◌≤◌, Bool, true, false, cond, eqb, ◌||◌, List, [], ◌∷◌, ◌++◌, length, get_or, take, drop, Option, Some, None, Result, Ok, Err, refl, sym, ap, ◌∙◌, arith, inl, inr, ◌⊎◌}
+use Rattle.std.proofs.Common.{◌≡◌, ◌≢◌, ℕ, zero, suc, ◌+◌, ◌-◌, ◌<◌, ◌≤◌, Bool, true, false, cond, not, eqb, ◌||◌, List, [], ◌∷◌, ◌++◌, length, get_or, take, drop, Option, Some, None, Result, Ok, Err, refl, sym, ap, ◌∙◌, arith, inl, inr, ◌⊎◌}
 use Rattle.std.specs.Prelude.{codes, nat_eq, bytes_eq, is_some, slice_get}
 use Rattle.std.specs.Option.{option_map}
 use Rattle.std.specs.List.{starts_with}
@@ -8,15 +8,15 @@ use Rattle.std.specs.BTreeSet.{BTreeSet, Updates}
 use Rattle.std.specs.Cmp.Lexicographic.{slice_cmp}
 use Rattle.std.specs.Ordering.{nat_cmp}
 use Rattle.std.proofs.lemmas.Map.Text.{is_eq-slice_cmp}
-use Rattle.std.proofs.lemmas.Bool.{cases_Bool, eqb-true, eqb-false, eq-eqb, ne_eqb, or_from}
+use Rattle.std.proofs.lemmas.Bool.{cases_Bool, eqb-true, eqb-false, eq-eqb, ne_eqb, or_from, not-true}
 use Rattle.std.proofs.lemmas.List.{length-append, length-drop, drop-drop}
 use Rattle.nzb_index.specs.declared.error.NzbError.{NzbError}
 use Rattle.nzb_index.specs.declared.error.NzbError.TheVariants.{Refused}
 use Rattle.nzb_index.specs.declared.error.NzbReason.{NzbReason}
 use Rattle.nzb_index.specs.declared.error.NzbReason.TheVariants.{DoubleAttribute, BadNumber}
-use Rattle.nzb_index.specs.Markup.{Attribute, Checks, attribute, has_attribute, or_nothing}
+use Rattle.nzb_index.specs.Markup.{Attribute, AttributeChecks, attribute, has_attribute, or_nothing}
 use Rattle.nzb_index.specs.MarkupReading.{Stop, stop_at, unexpected, word, behind_white, name_at, quoted_at, value_at, attribute_at, tag_rest, tag_at, ◌>>=◌}
-use Rattle.nzb_index.specs.Readers.{Fails, ReadsValue, unexpected_at}
+use Rattle.nzb_index.specs.Readers.{Fails, ReadsName, ReadsValue, unexpected_at}
 use Rattle.nzb_index.specs.declared.tags.TheConstants.{FEW_NAMES}
 use Rattle.nzb_index.specs.Tags.{HasLater, attributes_of, place_of, ReadsAttribute, ReadsTag}
 use Rattle.nzb_index.proofs.Words.{starts_front, word_found}
@@ -186,13 +186,13 @@ quoted_here text out at r l q h = go r h
 
 -- ---- an attribute
 
-abbrev judged : Checks → List ℕ → List ℕ → List ℕ → Result (Attribute × List ℕ) Stop
+abbrev judged : AttributeChecks → List ℕ → List ℕ → List ℕ → Result (Attribute × List ℕ) Stop
 judged checks from name rest = quoted_at rest >>= λ value. (cond (checks name value.0) (Ok true) (stop_at from BadNumber)) >>= λ fits. Ok (record { name = name; value = value.0 }, value.1)
 
-abbrev new_name : Checks → List Attribute → List ℕ → (List ℕ × List ℕ) → Result (Attribute × List ℕ) Stop
+abbrev new_name : AttributeChecks → List Attribute → List ℕ → (List ℕ × List ℕ) → Result (Attribute × List ℕ) Stop
 new_name checks earlier from name = (cond (has_attribute name.0 earlier) (stop_at from DoubleAttribute) (Ok true)) >>= λ new. word (codes "=") (behind_white name.1) >>= λ behind. judged checks from name.0 (behind_white behind)
 
-pub attribute_name_fails : (checks : Checks) (earlier : List Attribute) (text : List ℕ) (at : ℕ) (e : NzbError) → Fails text e (name_at (drop at text)) → Fails text e (attribute_at checks earlier (drop at text))
+pub attribute_name_fails : (checks : AttributeChecks) (earlier : List Attribute) (text : List ℕ) (at : ℕ) (e : NzbError) → Fails text e (name_at (drop at text)) → Fails text e (attribute_at checks earlier (drop at text))
 attribute_name_fails checks earlier text at e h = fails_then text e (name_at (drop at text)) (new_name checks earlier (drop at text)) h
 
 -- a name is read
@@ -204,19 +204,19 @@ pub record Named (text : List ℕ) (at name : ℕ) : Type 0 where
 stopped : {A : Type 0} (text : List ℕ) (at : ℕ) (reason : NzbReason) (read : Result A Stop) → at ≤ length text → read ≡ stop_at (drop at text) reason → Fails text (Refused at reason) read
 stopped {A} text at reason read l e = (l, e ∙ rw (length-drop at text) refl)
 
-pub attribute_double : (checks : Checks) (earlier : List Attribute) (text : List ℕ) (at name : ℕ) → Named text at name → has_attribute (take (name - at) (drop at text)) earlier ≡ true → Fails text (Refused at DoubleAttribute) (attribute_at checks earlier (drop at text))
+pub attribute_double : (checks : AttributeChecks) (earlier : List Attribute) (text : List ℕ) (at name : ℕ) → Named text at name → has_attribute (take (name - at) (drop at text)) earlier ≡ true → Fails text (Refused at DoubleAttribute) (attribute_at checks earlier (drop at text))
 attribute_double checks earlier text at name n h = stopped text at DoubleAttribute _ (let a = n.behind in let b = n.within in omega (arith, a, b)) (rw n.read (rw h refl))
 
-attribute_new : (checks : Checks) (earlier : List Attribute) (text : List ℕ) (at name : ℕ) → Named text at name → has_attribute (take (name - at) (drop at text)) earlier ≡ false →
+attribute_new : (checks : AttributeChecks) (earlier : List Attribute) (text : List ℕ) (at name : ℕ) → Named text at name → has_attribute (take (name - at) (drop at text)) earlier ≡ false →
     attribute_at checks earlier (drop at text) ≡ (word (codes "=") (behind_white (drop name text)) >>= λ behind. judged checks (drop at text) (take (name - at) (drop at text)) (behind_white behind))
 attribute_new checks earlier text at name n h = rw n.read (rw h refl)
 
-pub attribute_equals_fails : (checks : Checks) (earlier : List Attribute) (text : List ℕ) (at name here : ℕ) (e : NzbError) → Named text at name → has_attribute (take (name - at) (drop at text)) earlier ≡ false → drop here text ≡ behind_white (drop name text) →
+pub attribute_equals_fails : (checks : AttributeChecks) (earlier : List Attribute) (text : List ℕ) (at name here : ℕ) (e : NzbError) → Named text at name → has_attribute (take (name - at) (drop at text)) earlier ≡ false → drop here text ≡ behind_white (drop name text) →
     Fails text e (word (codes "=") (drop here text)) → Fails text e (attribute_at checks earlier (drop at text))
 attribute_equals_fails checks earlier text at name here e n h w f = fails_as text e _ _ (attribute_new checks earlier text at name n h ∙ ap (λ (t : List ℕ). word (codes "=") t >>= λ behind. judged checks (drop at text) (take (name - at) (drop at text)) (behind_white behind)) (sym w))
     (fails_then text e (word (codes "=") (drop here text)) (λ behind. judged checks (drop at text) (take (name - at) (drop at text)) (behind_white behind)) f)
 
-attribute_valued : (checks : Checks) (earlier : List Attribute) (text : List ℕ) (at name here equals place : ℕ) → Named text at name → has_attribute (take (name - at) (drop at text)) earlier ≡ false → drop here text ≡ behind_white (drop name text) →
+attribute_valued : (checks : AttributeChecks) (earlier : List Attribute) (text : List ℕ) (at name here equals place : ℕ) → Named text at name → has_attribute (take (name - at) (drop at text)) earlier ≡ false → drop here text ≡ behind_white (drop name text) →
     word (codes "=") (drop here text) ≡ Ok (drop equals text) → drop place text ≡ behind_white (drop equals text) → attribute_at checks earlier (drop at text) ≡ judged checks (drop at text) (take (name - at) (drop at text)) (drop place text)
 attribute_valued checks earlier text at name here equals place n h w f v = attribute_new checks earlier text at name n h ∙ ap (λ (t : List ℕ). word (codes "=") t >>= λ behind. judged checks (drop at text) (take (name - at) (drop at text)) (behind_white behind)) (sym w)
     ∙ rw f (ap (λ (t : List ℕ). judged checks (drop at text) (take (name - at) (drop at text)) t) (sym v))
@@ -231,37 +231,50 @@ pub record Valued (earlier : List Attribute) (text : List ℕ) (at name place : 
   pub read : word (codes "=") (drop here text) ≡ Ok (drop equals text)
   pub place_is : drop place text ≡ behind_white (drop equals text)
 
-valued : (checks : Checks) (earlier : List Attribute) (text : List ℕ) (at name place : ℕ) → Valued earlier text at name place → attribute_at checks earlier (drop at text) ≡ judged checks (drop at text) (take (name - at) (drop at text)) (drop place text)
+valued : (checks : AttributeChecks) (earlier : List Attribute) (text : List ℕ) (at name place : ℕ) → Valued earlier text at name place → attribute_at checks earlier (drop at text) ≡ judged checks (drop at text) (take (name - at) (drop at text)) (drop place text)
 valued checks earlier text at name place v = attribute_valued checks earlier text at name v.here v.equals place v.is_named v.is_new v.no_white v.read v.place_is
 
-pub attribute_value_fails : (checks : Checks) (earlier : List Attribute) (text : List ℕ) (at name place : ℕ) (e : NzbError) → Valued earlier text at name place → Fails text e (quoted_at (drop place text)) → Fails text e (attribute_at checks earlier (drop at text))
+pub attribute_value_fails : (checks : AttributeChecks) (earlier : List Attribute) (text : List ℕ) (at name place : ℕ) (e : NzbError) → Valued earlier text at name place → Fails text e (quoted_at (drop place text)) → Fails text e (attribute_at checks earlier (drop at text))
 attribute_value_fails checks earlier text at name place e v f = fails_as text e _ _ (valued checks earlier text at name place v)
     (fails_then text e (quoted_at (drop place text)) (λ value. (cond (checks (take (name - at) (drop at text)) value.0) (Ok true) (stop_at (drop at text) BadNumber)) >>= λ fits. Ok (record { name = take (name - at) (drop at text); value = value.0 }, value.1)) f)
 
-pub attribute_bad : (checks : Checks) (earlier : List Attribute) (text value : List ℕ) (at name place end : ℕ) → Valued earlier text at name place → quoted_at (drop place text) ≡ Ok (value, drop end text) → checks (take (name - at) (drop at text)) value ≡ false →
+pub attribute_bad : (checks : AttributeChecks) (earlier : List Attribute) (text value : List ℕ) (at name place end : ℕ) → Valued earlier text at name place → quoted_at (drop place text) ≡ Ok (value, drop end text) → checks (take (name - at) (drop at text)) value ≡ false →
     Fails text (Refused at BadNumber) (attribute_at checks earlier (drop at text))
 attribute_bad checks earlier text value at name place end v q h = stopped text at BadNumber _ (let n = v.is_named in let a = n.behind in let b = n.within in omega (arith, a, b)) (valued checks earlier text at name place v ∙ rw q (rw h refl))
 
-pub attribute_reads : (checks : Checks) (names values new_names new_values : List (List ℕ)) (text value : List ℕ) (at name place end : ℕ) → Valued (attributes_of names values) text at name place → at < end → end ≤ length text → quoted_at (drop place text) ≡ Ok (value, drop end text) →
+pub attribute_reads : (checks : AttributeChecks) (names values new_names new_values : List (List ℕ)) (text value : List ℕ) (at name place end : ℕ) → Valued (attributes_of names values) text at name place → at < end → end ≤ length text → quoted_at (drop place text) ≡ Ok (value, drop end text) →
     checks (take (name - at) (drop at text)) value ≡ true → new_names ≡ names ++ take (name - at) (drop at text) ∷ [] → new_values ≡ values ++ value ∷ [] →
     ReadsAttribute text at names values new_names new_values (Ok end) (attribute_at checks (attributes_of names values) (drop at text))
 attribute_reads checks names values new_names new_values text value at name place end v l w q h a b = (l, w, (record { name = take (name - at) (drop at text); value = value }, a, b, valued checks (attributes_of names values) text at name place v ∙ rw q (rw h refl)))
 
+-- the same by what is answered on the way
+pub valued_at : (names values : List (List ℕ)) (text : List ℕ) (at name here equals place : ℕ) (new : Bool) → length names ≡ length values → ReadsName text at (Ok name) (name_at (drop at text)) → new ≡ not (is_some (place_of (take (name - at) (drop at text)) names)) →
+    new ≡ true → drop here text ≡ behind_white (drop name text) → word (codes "=") (drop here text) ≡ Ok (drop equals text) → drop place text ≡ behind_white (drop equals text) → Valued (attributes_of names values) text at name place
+valued_at names values text at name here equals place new l n is fine w r p = record {
+  is_named = record { behind = n.0; within = n.1; read = n.2 };
+  is_new = has_place _ names values l ∙ not-true _ (sym is ∙ fine);
+  here = here;
+  equals = equals;
+  no_white = w;
+  read = r;
+  place_is = p;
+}
+
 -- ---- a start tag
 
-pub record TagOn (checks : Checks) (text : List ℕ) (at end : ℕ) (names values : List (List ℕ)) : Type 0 where
+pub record TagOn (checks : AttributeChecks) (text : List ℕ) (at end : ℕ) (names values : List (List ℕ)) : Type 0 where
   pub left : ℕ
   pub fits : length (drop end text) ≤ left
   pub reads : tag_at checks (drop at text) ≡ tag_rest checks left (attributes_of names values) (drop end text)
 
 -- the attributes up to a place are read
-pub record StillTag (checks : Checks) (text : List ℕ) (at end : ℕ) (names values : List (List ℕ)) : Type 0 where
+pub record StillTag (checks : AttributeChecks) (text : List ℕ) (at end : ℕ) (names values : List (List ℕ)) : Type 0 where
   pub behind : at ≤ end
   pub within : end ≤ length text
   pub pairs : length names ≡ length values
   pub goes_on : TagOn checks text at end names values
 
-pub tag_starts : (checks : Checks) (text : List ℕ) (at : ℕ) (names values : List (List ℕ)) → at ≤ length text → names ≡ [] → values ≡ [] → StillTag checks text at at names values
+pub tag_starts : (checks : AttributeChecks) (text : List ℕ) (at : ℕ) (names values : List (List ℕ)) → at ≤ length text → names ≡ [] → values ≡ [] → StillTag checks text at at names values
 tag_starts checks text at names values l a b = record {
   behind = omega arith;
   within = l;
@@ -277,7 +290,7 @@ tag_starts checks text at names values l a b = record {
     no_attributes ns vs e = rw e refl
 
 -- with a byte there, some fuel is there
-tag_fuel : (checks : Checks) (text : List ℕ) (at end : ℕ) (names values : List (List ℕ)) → TagOn checks text at end names values → end < length text →
+tag_fuel : (checks : AttributeChecks) (text : List ℕ) (at end : ℕ) (names values : List (List ℕ)) → TagOn checks text at end names values → end < length text →
     (left : ℕ) × (length (drop end text) ≤ suc left) × (tag_at checks (drop at text) ≡ tag_rest checks (suc left) (attributes_of names values) (drop end text))
 tag_fuel checks text at end names values t l = go t.left t.fits t.reads
   where
@@ -286,7 +299,7 @@ tag_fuel checks text at end names values t l = go t.left t.fits t.reads
     go zero fits e = absurd (omega (arith, length-drop end text, l, fits))
     go (suc left) fits e = (left, fits, e)
 
-pub tag_over : (checks : Checks) (text : List ℕ) (at end : ℕ) (names values : List (List ℕ)) → StillTag checks text at end names values → length text ≤ end → Fails text (unexpected_at text end) (tag_at checks (drop at text))
+pub tag_over : (checks : AttributeChecks) (text : List ℕ) (at end : ℕ) (names values : List (List ℕ)) → StillTag checks text at end names values → length text ≤ end → Fails text (unexpected_at text end) (tag_at checks (drop at text))
 tag_over checks text at end names values s l = unexpected_fails text end (tag_at checks (drop at text)) s.within (go s.goes_on)
   where
     go : TagOn checks text at end names values → tag_at checks (drop at text) ≡ unexpected (drop end text)
@@ -296,7 +309,7 @@ tag_over checks text at end names values s l = unexpected_fails text end (tag_at
         nothing zero = refl
         nothing (suc left) = refl
 
-pub tag_opens : (checks : Checks) (text : List ℕ) (at end mid : ℕ) (names values : List (List ℕ)) → StillTag checks text at end names values → end < length text → end ≤ mid → mid ≤ length text → drop mid text ≡ behind_white (drop end text) → starts_with nat_eq (drop mid text) (codes ">") ≡ true →
+pub tag_opens : (checks : AttributeChecks) (text : List ℕ) (at end mid : ℕ) (names values : List (List ℕ)) → StillTag checks text at end names values → end < length text → end ≤ mid → mid ≤ length text → drop mid text ≡ behind_white (drop end text) → starts_with nat_eq (drop mid text) (codes ">") ≡ true →
     ReadsTag text at names values (Ok (false, mid + 1)) (tag_at checks (drop at text))
 tag_opens checks text at end mid names values s l a b w e =
     let front = starts_front (drop mid text) (codes ">") e in
@@ -304,11 +317,11 @@ tag_opens checks text at end mid names values s l a b w e =
     let behind = s.behind in
     (omega (arith, behind, a), omega (arith, ap length front, length-drop mid text, b), s.pairs, f.2 ∙ rw (← w) (rw e (rw (drop-drop 1 mid text) refl)))
 
-tag_slash : (checks : Checks) (text : List ℕ) (at end mid : ℕ) (names values : List (List ℕ)) → StillTag checks text at end names values → end < length text → drop mid text ≡ behind_white (drop end text) → starts_with nat_eq (drop mid text) (codes ">") ≡ false →
+tag_slash : (checks : AttributeChecks) (text : List ℕ) (at end mid : ℕ) (names values : List (List ℕ)) → StillTag checks text at end names values → end < length text → drop mid text ≡ behind_white (drop end text) → starts_with nat_eq (drop mid text) (codes ">") ≡ false →
     starts_with nat_eq (drop mid text) (codes "/") ≡ true → tag_at checks (drop at text) ≡ (word (codes "/>") (drop mid text) >>= λ behind. Ok (record { attributes = attributes_of names values; closed = true }, behind))
 tag_slash checks text at end mid names values s l w e f = (tag_fuel checks text at end names values s.goes_on l).2 ∙ rw (← w) (rw e (rw f refl))
 
-pub tag_closes : (checks : Checks) (text : List ℕ) (at end mid last : ℕ) (names values : List (List ℕ)) → StillTag checks text at end names values → end < length text → end ≤ mid → drop mid text ≡ behind_white (drop end text) → starts_with nat_eq (drop mid text) (codes ">") ≡ false →
+pub tag_closes : (checks : AttributeChecks) (text : List ℕ) (at end mid last : ℕ) (names values : List (List ℕ)) → StillTag checks text at end names values → end < length text → end ≤ mid → drop mid text ≡ behind_white (drop end text) → starts_with nat_eq (drop mid text) (codes ">") ≡ false →
     starts_with nat_eq (drop mid text) (codes "/") ≡ true → mid ≤ last → last ≤ length text → word (codes "/>") (drop mid text) ≡ Ok (drop last text) → ReadsTag text at names values (Ok (true, last)) (tag_at checks (drop at text))
 tag_closes checks text at end mid last names values s l a w e f b c r =
     let behind = s.behind in
@@ -318,28 +331,28 @@ tag_closes checks text at end mid last names values s l a w e f b c r =
     word_two : word (codes "/>") (drop mid text) ≡ Ok (drop last text) → mid < last
     word_two g = let front = word_found (codes "/>") (drop mid text) (drop last text) g in omega (arith, ap length front, length-drop mid text, length-drop last text, c)
 
-pub tag_slash_fails : (checks : Checks) (text : List ℕ) (at end mid : ℕ) (names values : List (List ℕ)) (e : NzbError) → StillTag checks text at end names values → end < length text → drop mid text ≡ behind_white (drop end text) → starts_with nat_eq (drop mid text) (codes ">") ≡ false →
+pub tag_slash_fails : (checks : AttributeChecks) (text : List ℕ) (at end mid : ℕ) (names values : List (List ℕ)) (e : NzbError) → StillTag checks text at end names values → end < length text → drop mid text ≡ behind_white (drop end text) → starts_with nat_eq (drop mid text) (codes ">") ≡ false →
     starts_with nat_eq (drop mid text) (codes "/") ≡ true → Fails text e (word (codes "/>") (drop mid text)) → Fails text e (tag_at checks (drop at text))
 tag_slash_fails checks text at end mid names values e s l w f g h = fails_as text e _ _ (tag_slash checks text at end mid names values s l w f g) (fails_then text e (word (codes "/>") (drop mid text)) (λ behind. Ok (record { attributes = attributes_of names values; closed = true }, behind)) h)
 
-pub tag_joined : (checks : Checks) (text : List ℕ) (at end : ℕ) (names values : List (List ℕ)) → StillTag checks text at end names values → end < length text → drop end text ≡ behind_white (drop end text) → starts_with nat_eq (drop end text) (codes ">") ≡ false →
+pub tag_joined : (checks : AttributeChecks) (text : List ℕ) (at end : ℕ) (names values : List (List ℕ)) → StillTag checks text at end names values → end < length text → drop end text ≡ behind_white (drop end text) → starts_with nat_eq (drop end text) (codes ">") ≡ false →
     starts_with nat_eq (drop end text) (codes "/") ≡ false → Fails text (unexpected_at text end) (tag_at checks (drop at text))
 tag_joined checks text at end names values s l w e f = unexpected_fails text end (tag_at checks (drop at text)) s.within
     ((tag_fuel checks text at end names values s.goes_on l).2 ∙ rw (← w) (rw e (rw f (rw (eq-eqb (length (drop end text)) (length (drop end text)) refl) refl))))
 
-tag_attribute : (checks : Checks) (text : List ℕ) (at end mid : ℕ) (names values : List (List ℕ)) (s : StillTag checks text at end names values) → end < length text → end < mid → mid ≤ length text → drop mid text ≡ behind_white (drop end text) → starts_with nat_eq (drop mid text) (codes ">") ≡ false →
+tag_attribute : (checks : AttributeChecks) (text : List ℕ) (at end mid : ℕ) (names values : List (List ℕ)) (s : StillTag checks text at end names values) → end < length text → end < mid → mid ≤ length text → drop mid text ≡ behind_white (drop end text) → starts_with nat_eq (drop mid text) (codes ">") ≡ false →
     starts_with nat_eq (drop mid text) (codes "/") ≡ false → (left : ℕ) × (length (drop end text) ≤ suc left) × (tag_at checks (drop at text) ≡ (attribute_at checks (attributes_of names values) (drop mid text) >>= λ a. tag_rest checks left (attributes_of names values ++ a.0 ∷ []) a.1))
 tag_attribute checks text at end mid names values s l m n w e f =
     let t = tag_fuel checks text at end names values s.goes_on l in
     (t.0, t.1, t.2 ∙ rw (← w) (rw e (rw f (rw (ne_eqb (length (drop mid text)) (length (drop end text)) (λ same. absurd (omega (arith, same, length-drop mid text, length-drop end text, m, n)))) refl))))
 
-pub tag_attribute_fails : (checks : Checks) (text : List ℕ) (at end mid : ℕ) (names values : List (List ℕ)) (e : NzbError) → StillTag checks text at end names values → end < length text → end < mid → mid ≤ length text → drop mid text ≡ behind_white (drop end text) → starts_with nat_eq (drop mid text) (codes ">") ≡ false →
+pub tag_attribute_fails : (checks : AttributeChecks) (text : List ℕ) (at end mid : ℕ) (names values : List (List ℕ)) (e : NzbError) → StillTag checks text at end names values → end < length text → end < mid → mid ≤ length text → drop mid text ≡ behind_white (drop end text) → starts_with nat_eq (drop mid text) (codes ">") ≡ false →
     starts_with nat_eq (drop mid text) (codes "/") ≡ false → Fails text e (attribute_at checks (attributes_of names values) (drop mid text)) → Fails text e (tag_at checks (drop at text))
 tag_attribute_fails checks text at end mid names values e s l m n w f g h =
     let t = tag_attribute checks text at end mid names values s l m n w f g in
     fails_as text e _ _ t.2 (fails_then text e (attribute_at checks (attributes_of names values) (drop mid text)) (λ a. tag_rest checks t.0 (attributes_of names values ++ a.0 ∷ []) a.1) h)
 
-pub tag_next : (checks : Checks) (text : List ℕ) (at end mid last : ℕ) (names values new_names new_values : List (List ℕ)) → StillTag checks text at end names values → end < length text → end < mid → mid ≤ length text → drop mid text ≡ behind_white (drop end text) → starts_with nat_eq (drop mid text) (codes ">") ≡ false →
+pub tag_next : (checks : AttributeChecks) (text : List ℕ) (at end mid last : ℕ) (names values new_names new_values : List (List ℕ)) → StillTag checks text at end names values → end < length text → end < mid → mid ≤ length text → drop mid text ≡ behind_white (drop end text) → starts_with nat_eq (drop mid text) (codes ">") ≡ false →
     starts_with nat_eq (drop mid text) (codes "/") ≡ false → ReadsAttribute text mid names values new_names new_values (Ok last) (attribute_at checks (attributes_of names values) (drop mid text)) → StillTag checks text at last new_names new_values
 tag_next checks text at end mid last names values new_names new_values s l m n w f g (a, b, (x, p, q, r)) =
     let behind = s.behind in

@@ -4,7 +4,7 @@ use Rattle.std.specs.Prelude.{codes, nat_eq}
 use Rattle.std.specs.List.{starts_with}
 use Rattle.std.proofs.lemmas.Bool.{eqb-true, eq-eqb, or_cases, both_ways}
 use Rattle.std.proofs.lemmas.List.{append-nil}
-use Rattle.nzb_index.specs.Markup.{Attribute, IsAttribute, AreAttributes, Checks, has_attribute, IsWhite}
+use Rattle.nzb_index.specs.Markup.{Attribute, IsAttribute, AreAttributes, AttributeChecks, has_attribute, IsWhite}
 use Rattle.nzb_index.specs.MarkupReading.{Tag, quoted_at, attribute_at, tag_rest, tag_at, name_at, word, behind_white}
 use Rattle.nzb_index.proofs.Words.{starts_front}
 use Rattle.nzb_index.proofs.TextsFound.{Value, value_found}
@@ -28,6 +28,8 @@ quoted_gives (q ∷ rest) = gives_if (eqb q 34 || eqb q 39) _ _
 -- an attribute from its name on, whatever its value may be
 pub record Formed (here : List ℕ) (a : Attribute) (rest : List ℕ) : Type 0 where
   pub text : List ℕ
+  pub tail : List ℕ
+  pub text_is : text ≡ a.name ++ tail
   pub here_is : here ≡ text ++ rest
   pub is_attribute : (before : List ℕ) → IsWhite before → before ≢ [] → IsAttribute (before ++ text) a
 
@@ -37,6 +39,8 @@ formed here n b v named equals q =
     let u = white_taken b in
     record {
       text = n.0 ++ w.front ++ codes "=" ++ u.front ++ q.quote ∷ q.value.raw ++ q.quote ∷ [];
+      tail = w.front ++ codes "=" ++ u.front ++ q.quote ∷ q.value.raw ++ q.quote ∷ [];
+      text_is = simp append_assoc;
       here_is = joined here n.0 n.1 w.front (behind_white n.1) b u.front (behind_white b) q.quote (drop 1 (behind_white b)) q.value.raw v.1 named.text_is w.text_is equals u.text_is q.text_is q.value.rest_is;
       is_attribute = λ before white some. record {
         before = before;
@@ -58,12 +62,12 @@ formed here n b v named equals q =
         h ≡ (n ++ w ++ codes "=" ++ u ++ q ∷ raw ++ q ∷ []) ++ v
     joined h n r w bw b u bu q d raw v e1 e2 e3 e4 e5 e6 = rw (e1, e2, e3, e4, e5, e6) (simp append_assoc)
 
-pub record Attributed (checks : Checks) (earlier : List Attribute) (here : List ℕ) (a : Attribute) (rest : List ℕ) : Type 0 where
+pub record Attributed (checks : AttributeChecks) (earlier : List Attribute) (here : List ℕ) (a : Attribute) (rest : List ℕ) : Type 0 where
   pub is_formed : Formed here a rest
   pub new : has_attribute a.name earlier ≡ false
   pub fits : checks a.name a.value ≡ true
 
-pub attribute_gives : (checks : Checks) (earlier : List Attribute) (here : List ℕ) → Gives (attribute_at checks earlier here) (λ a. Attributed checks earlier here a.0 a.1)
+pub attribute_gives : (checks : AttributeChecks) (earlier : List Attribute) (here : List ℕ) → Gives (attribute_at checks earlier here) (λ a. Attributed checks earlier here a.0 a.1)
 attribute_gives checks earlier here =
     gives_bind (name_at here) _ (name_gives here) (λ n named.
     gives_not (has_attribute n.0 earlier) _ _ (λ new.
@@ -77,7 +81,7 @@ tag_end true = codes "/>"
 tag_end false = codes ">"
 
 -- a tag behind its name and these attributes
-pub record Tagged (checks : Checks) (earlier : List Attribute) (rest : List ℕ) (tag : Tag) (behind : List ℕ) : Type 0 where
+pub record Tagged (checks : AttributeChecks) (earlier : List Attribute) (rest : List ℕ) (tag : Tag) (behind : List ℕ) : Type 0 where
   pub text : List ℕ
   pub white : List ℕ
   pub attributes : List Attribute
@@ -90,7 +94,7 @@ pub record Tagged (checks : Checks) (earlier : List Attribute) (rest : List ℕ)
 pub white_some : (rest front : List ℕ) → eqb (length (behind_white rest)) (length rest) ≡ false → rest ≡ front ++ behind_white rest → front ≢ []
 white_some rest front h e empty = both_ways (eqb (length (behind_white rest)) (length rest)) h (eq-eqb (length (behind_white rest)) (length rest) (ap length (sym (e ∙ ap (λ (t : List ℕ). t ++ behind_white rest) empty))))
 
-one_more : (checks : Checks) (earlier : List Attribute) (rest : List ℕ) (a : Attribute) (more : List ℕ) (tag : Tag) (behind : List ℕ) → eqb (length (behind_white rest)) (length rest) ≡ false →
+one_more : (checks : AttributeChecks) (earlier : List Attribute) (rest : List ℕ) (a : Attribute) (more : List ℕ) (tag : Tag) (behind : List ℕ) → eqb (length (behind_white rest)) (length rest) ≡ false →
     Attributed checks earlier (behind_white rest) a more → Tagged checks (earlier ++ a ∷ []) more tag behind → Tagged checks earlier rest tag behind
 one_more checks earlier rest a more tag behind h one t =
     let w = white_taken rest in
@@ -107,7 +111,7 @@ one_more checks earlier rest a more tag behind h one t =
     joined : (r f b o m t w c l : List ℕ) → r ≡ f ++ b → b ≡ o ++ m → m ≡ t ++ w ++ c ++ l → r ≡ ((f ++ o) ++ t) ++ w ++ c ++ l
     joined r f b o m t w c l e1 e2 e3 = rw (e1, e2, e3) (simp append_assoc)
 
-pub tag_rest_gives : (checks : Checks) (fuel : ℕ) (earlier : List Attribute) (rest : List ℕ) → Gives (tag_rest checks fuel earlier rest) (λ t. Tagged checks earlier rest t.0 t.1)
+pub tag_rest_gives : (checks : AttributeChecks) (fuel : ℕ) (earlier : List Attribute) (rest : List ℕ) → Gives (tag_rest checks fuel earlier rest) (λ t. Tagged checks earlier rest t.0 t.1)
 tag_rest_gives checks zero earlier rest = gives_err _
 tag_rest_gives checks (suc fuel) earlier rest =
     let w = white_taken rest in
@@ -124,5 +128,5 @@ tag_rest_gives checks (suc fuel) earlier rest =
     ended : (r f b c d : List ℕ) → r ≡ f ++ b → b ≡ c ++ d → r ≡ [] ++ f ++ c ++ d
     ended r f b c d e1 e2 = rw (e1, e2) (simp append_assoc)
 
-pub tag_gives : (checks : Checks) (rest : List ℕ) → Gives (tag_at checks rest) (λ t. Tagged checks [] rest t.0 t.1)
+pub tag_gives : (checks : AttributeChecks) (rest : List ℕ) → Gives (tag_at checks rest) (λ t. Tagged checks [] rest t.0 t.1)
 tag_gives checks rest = tag_rest_gives checks (length rest) [] rest

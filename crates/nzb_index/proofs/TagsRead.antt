@@ -5,7 +5,7 @@ use Rattle.std.specs.List.{starts_with, list_all, list_any}
 use Rattle.std.proofs.lemmas.Bool.{ne_eqb, and_parts, and_left}
 use Rattle.std.proofs.lemmas.List.{length-append, append-nil}
 use Rattle.std.proofs.lemmas.Slice.Eq.{bytes_eq-Decides}
-use Rattle.nzb_index.specs.Markup.{Attribute, Checks, IsAttribute, AreAttributes, has_attribute, is_white, is_name_byte, IsWhite, IsName, IsValue, IsElement}
+use Rattle.nzb_index.specs.Markup.{Attribute, AttributeChecks, IsAttribute, AreAttributes, has_attribute, is_white, is_name_byte, IsWhite, IsMarkupName, IsValue, IsElement}
 use Rattle.nzb_index.specs.MarkupReading.{Stop, Tag, behind_white, name_at, quoted_at, attribute_at, tag_rest, tag_at, end_tag}
 use Rattle.nzb_index.proofs.TagsFound.{tag_end}
 use Rattle.nzb_index.proofs.ElementsFound.{Content, none, some}
@@ -14,7 +14,7 @@ use Rattle.nzb_index.proofs.TextsRead.{gave, value_back}
 
 -- ---- attributes
 
-record AttributeBack (checks : Checks) (earlier : List Attribute) (text : List ℕ) (a : Attribute) (rest : List ℕ) : Type 0 where
+pub record AttributeBack (checks : AttributeChecks) (earlier : List Attribute) (text : List ℕ) (a : Attribute) (rest : List ℕ) : Type 0 where
   pub here : List ℕ
   pub white : behind_white text ≡ here
   pub shorter : eqb (length here) (length text) ≡ false
@@ -23,33 +23,33 @@ record AttributeBack (checks : Checks) (earlier : List Attribute) (text : List �
   pub read : attribute_at checks earlier here ≡ Ok (a, rest)
   pub ends : NoName text
 
-quote_white : (q : ℕ) → (q ≡ 34) ⊎ (q ≡ 39) → is_white q ≡ false
+pub quote_white : (q : ℕ) → (q ≡ 34) ⊎ (q ≡ 39) → is_white q ≡ false
 quote_white q (inl e) = rw e refl
 quote_white q (inr e) = rw e refl
 
-quote_is : (q : ℕ) → (q ≡ 34) ⊎ (q ≡ 39) → (eqb q 34 || eqb q 39) ≡ true
+pub quote_is : (q : ℕ) → (q ≡ 34) ⊎ (q ≡ 39) → (eqb q 34 || eqb q 39) ≡ true
 quote_is q (inl e) = rw e refl
 quote_is q (inr e) = rw e refl
 
-name_white : (name t : List ℕ) → IsName name → behind_white (name ++ t) ≡ name ++ t
+pub name_white : (name t : List ℕ) → IsMarkupName name → behind_white (name ++ t) ≡ name ++ t
 name_white [] t (nonempty, all) = absurd (nonempty refl)
 name_white (x ∷ name) t (nonempty, all) = white_none x (name ++ t) (name_no_white x (and_parts (is_name_byte x) (list_all is_name_byte name) all).0)
 
-pub name_other : (y : ℕ) (name t : List ℕ) → is_name_byte y ≡ false → IsName name → starts_with nat_eq (name ++ t) (y ∷ []) ≡ false
+pub name_other : (y : ℕ) (name t : List ℕ) → is_name_byte y ≡ false → IsMarkupName name → starts_with nat_eq (name ++ t) (y ∷ []) ≡ false
 name_other y [] t n (nonempty, all) = absurd (nonempty refl)
 name_other y (x ∷ name) t n (nonempty, all) = and_left (eqb y x) _ (ne_eqb y x (λ e. other e (and_parts (is_name_byte x) (list_all is_name_byte name) all).0))
   where
     other : y ≡ x → is_name_byte x ≡ true → ⊥
     other e h = let t : is_name_byte y ≡ true = rw e h in absurd cc
 
-white_ends : (w t : List ℕ) → IsWhite w → w ≢ [] → NoName (w ++ t)
+pub white_ends : (w t : List ℕ) → IsWhite w → w ≢ [] → NoName (w ++ t)
 white_ends [] t h s = absurd (s refl)
 white_ends (x ∷ w) t h s = record { byte = x; more = w ++ t; text_is = refl; is_none = white_no_name x (and_parts (is_white x) (list_all is_white w) h).0 }
 
-quoted_back : (quote : ℕ) → (quote ≡ 34) ⊎ (quote ≡ 39) → (value bytes rest : List ℕ) → list_any (λ b. eqb b quote || eqb b 60) value ≡ false → IsValue value bytes → quoted_at (quote ∷ (value ++ quote ∷ rest)) ≡ gave bytes rest
+pub quoted_back : (quote : ℕ) → (quote ≡ 34) ⊎ (quote ≡ 39) → (value bytes rest : List ℕ) → list_any (λ b. eqb b quote || eqb b 60) value ≡ false → IsValue value bytes → quoted_at (quote ∷ (value ++ quote ∷ rest)) ≡ gave bytes rest
 quoted_back quote k value bytes rest i (pieces, all, e, f) = rw (quote_is quote k) (value_back quote k (length (value ++ quote ∷ rest)) value rest pieces all e i (omega arith) ∙ ap (λ (b : List ℕ). gave b rest) (sym f))
 
-attribute_back : (checks : Checks) (earlier : List Attribute) (first rest : List ℕ) (a : Attribute) → IsAttribute first a → has_attribute a.name earlier ≡ false → checks a.name a.value ≡ true → AttributeBack checks earlier (first ++ rest) a rest
+pub attribute_back : (checks : AttributeChecks) (earlier : List Attribute) (first rest : List ℕ) (a : Attribute) → IsAttribute first a → has_attribute a.name earlier ≡ false → checks a.name a.value ≡ true → AttributeBack checks earlier (first ++ rest) a rest
 attribute_back checks earlier first rest a is new fits =
     let value : List ℕ = is.behind_equals ++ is.quote ∷ (is.value ++ is.quote ∷ rest) in
     let tail : List ℕ = is.behind_name ++ 61 ∷ value in
@@ -74,7 +74,7 @@ attribute_back checks earlier first rest a is new fits =
     longer [] h s e = s refl
     longer (x ∷ b) h s e = absurd (omega (arith, length-append b h, e))
 
-attribute_long : (first : List ℕ) (a : Attribute) → IsAttribute first a → 1 ≤ length first
+pub attribute_long : (first : List ℕ) (a : Attribute) → IsAttribute first a → 1 ≤ length first
 attribute_long first a is = go first is.before _ is.apart (simp append_assoc at is.text_is)
   where
     go : (f b t : List ℕ) → b ≢ [] → f ≡ b ++ t → 1 ≤ length f
@@ -87,7 +87,7 @@ tag_white : (w : List ℕ) (c : Bool) (behind : List ℕ) → IsWhite w → behi
 tag_white w true behind h = behind_all_white w 47 (62 ∷ behind) h refl
 tag_white w false behind h = behind_all_white w 62 behind h refl
 
-tag_back : (checks : Checks) (attributes earlier : List Attribute) (text white : List ℕ) (closed : Bool) (behind : List ℕ) (fuel : ℕ) → AreAttributes checks earlier text attributes → IsWhite white →
+pub tag_back : (checks : AttributeChecks) (attributes earlier : List Attribute) (text white : List ℕ) (closed : Bool) (behind : List ℕ) (fuel : ℕ) → AreAttributes checks earlier text attributes → IsWhite white →
     length (text ++ (white ++ (tag_end closed ++ behind))) ≤ fuel → tag_rest checks fuel earlier (text ++ (white ++ (tag_end closed ++ behind))) ≡ Ok (record { attributes = earlier ++ attributes; closed = closed }, behind)
 tag_back checks attributes earlier text white closed behind zero are w l = absurd (omega (arith, length-append text (white ++ (tag_end closed ++ behind)), length-append white (tag_end closed ++ behind), end_long closed))
   where
@@ -105,13 +105,13 @@ tag_back checks (a ∷ more) earlier text white closed behind (suc fuel) (first,
     made : List Attribute → Result (Tag × List ℕ) Stop
     made t = Ok (record { attributes = t; closed = closed }, behind)
 
-pub end_tag_back : (name last behind : List ℕ) → IsName name → IsWhite last → end_tag name None (60 ∷ 47 ∷ (name ++ (last ++ 62 ∷ behind))) ≡ Ok behind
+pub end_tag_back : (name last behind : List ℕ) → IsMarkupName name → IsWhite last → end_tag name None (60 ∷ 47 ∷ (name ++ (last ++ 62 ∷ behind))) ≡ Ok behind
 end_tag_back name last behind n w =
     then (name_at (name ++ (last ++ 62 ∷ behind))) _ (name, last ++ 62 ∷ behind) _ (name_back name (last ++ 62 ∷ behind) n (no_name_white last (62 ∷ behind) w (record { byte = 62; more = behind; text_is = refl; is_none = refl })))
     (rw ((bytes_eq-Decides name name).1 refl, behind_all_white last 62 behind w refl) refl)
 
 -- an element of the grammar, as its tag is read
-pub record Opened (checks : Checks) (name text : List ℕ) (attributes : List Attribute) (inside rest : List ℕ) : Type 0 where
+pub record Opened (checks : AttributeChecks) (name text : List ℕ) (attributes : List Attribute) (inside rest : List ℕ) : Type 0 where
   pub left : List ℕ
   pub mid : List ℕ
   pub closed : Bool
@@ -120,14 +120,14 @@ pub record Opened (checks : Checks) (name text : List ℕ) (attributes : List At
   pub tag : tag_at checks left ≡ Ok (record { attributes = attributes; closed = closed }, mid)
   pub content : Content name closed mid inside rest
 
-tag_ends : (checks : Checks) (earlier attributes : List Attribute) (text white : List ℕ) (closed : Bool) (behind : List ℕ) → AreAttributes checks earlier text attributes → IsWhite white → NoName (text ++ (white ++ (tag_end closed ++ behind)))
+pub tag_ends : (checks : AttributeChecks) (earlier attributes : List Attribute) (text white : List ℕ) (closed : Bool) (behind : List ℕ) → AreAttributes checks earlier text attributes → IsWhite white → NoName (text ++ (white ++ (tag_end closed ++ behind)))
 tag_ends checks earlier [] text white true behind are w = rw are (no_name_white white (47 ∷ 62 ∷ behind) w (record { byte = 47; more = 62 ∷ behind; text_is = refl; is_none = refl }))
 tag_ends checks earlier [] text white false behind are w = rw are (no_name_white white (62 ∷ behind) w (record { byte = 62; more = behind; text_is = refl; is_none = refl }))
 tag_ends checks earlier (a ∷ more) text white closed behind (first, rest, e, is, new, fits, are) w =
     let end : List ℕ = white ++ (tag_end closed ++ behind) in
     rw (e, append_assoc first rest end) (attribute_back checks earlier first (rest ++ end) a is new fits).ends
 
-pub open_back : (checks : Checks) (name text : List ℕ) (attributes : List Attribute) (inside rest : List ℕ) → IsElement checks name text attributes inside → Opened checks name text attributes inside rest
+pub open_back : (checks : AttributeChecks) (name text : List ℕ) (attributes : List Attribute) (inside rest : List ℕ) → IsElement checks name text attributes inside → Opened checks name text attributes inside rest
 open_back checks name text attributes inside rest is = go is.text_is
   where
     go : ((text ≡ codes "<" ++ name ++ is.attribute_text ++ is.white ++ codes "/>") × (inside ≡ [])) ⊎ ((last : List ℕ) × IsWhite last × (text ≡ codes "<" ++ name ++ is.attribute_text ++ is.white ++ codes ">" ++ inside ++ codes "</" ++ name ++ last ++ codes ">")) →

@@ -8,7 +8,7 @@ use Rattle.std.proofs.lemmas.Bool.{eqb-true, eqb-false, eq-eqb, ne_eqb, cases_Bo
 use Rattle.std.proofs.lemmas.Bool.Decides.{nat_tests}
 use Rattle.std.proofs.lemmas.List.{take-append-drop, drop-drop, length-take, length-drop}
 use Rattle.nzb_index.specs.declared.error.NzbReason.TheVariants.{Ended, BadReference}
-use Rattle.nzb_index.specs.Markup.{is_white, is_control, is_character, IsNamedReference, IsReference, IsPlain, StandsFor, spaced}
+use Rattle.nzb_index.specs.Markup.{is_white, is_control, is_character, IsNamedReference, IsReference, IsPlainText, Denotes, spaced}
 use Rattle.nzb_index.specs.MarkupReading.{Stop, word, unexpected, stop_at, references, digits_at, named, reference_at, with_front, value_at, ◌>>=◌}
 use Rattle.nzb_index.proofs.Words.{chosen, bind_ok, starts_front}
 
@@ -216,9 +216,9 @@ spaced-append (x ∷ a) b q =
     spaced-one x (a ++ b) (λ m e f. w.1 e) ∙ ap (λ (y : ℕ). y ∷ spaced (a ++ b)) w.0 ∙ ap (λ (t : List ℕ). x ∷ t) (spaced-append a b r.1)
 
 abbrev pub Piece : List ℕ → List ℕ → Type 0
-Piece t p = IsPlain t p ⊎ IsReference t p
+Piece t p = IsPlainText t p ⊎ IsReference t p
 
-with_piece : (t p text bytes : List ℕ) → Piece t p → StandsFor Piece text bytes → StandsFor Piece (t ++ text) (p ++ bytes)
+with_piece : (t p text bytes : List ℕ) → Piece t p → Denotes Piece text bytes → Denotes Piece (t ++ text) (p ++ bytes)
 with_piece t p text bytes h (pieces, all, e, f) = ((t, p) ∷ pieces, (h, all), ap (λ (x : List ℕ). t ++ x) e, ap (λ (x : List ℕ). p ++ x) f)
 
 abbrev pub closes : ℕ → ℕ → Bool
@@ -229,7 +229,7 @@ pub record Value (quote : ℕ) (rest bytes behind : List ℕ) : Type 0 where
   pub raw : List ℕ
   pub rest_is : rest ≡ raw ++ quote ∷ behind
   pub inside : list_any (closes quote) raw ≡ false
-  pub is_value : StandsFor Piece (spaced raw) bytes
+  pub is_value : Denotes Piece (spaced raw) bytes
 
 closes_no : (c y : ℕ) → (c ≡ 34) ⊎ (c ≡ 39) → Quiet y → closes c y ≡ false
 closes_no c y (inl e) q = or_from (eqb y c) (eqb y 60) (ne_eqb y c (λ f. q.double (f ∙ e))) (ne_eqb y 60 q.less)
@@ -252,7 +252,7 @@ value_reference quote k rest bytes left more behind (t, e, is, q) v =
       raw = 38 ∷ (t ++ v.raw);
       rest_is = ap (λ (x : List ℕ). 38 ∷ x) (e ∙ ap (λ (x : List ℕ). t ++ x) v.rest_is ∙ sym (append_assoc t v.raw (quote ∷ behind)));
       inside = inside-append (closes quote) (38 ∷ t) v.raw (quiet_inside quote k (38 ∷ t) quiet) v.inside;
-      is_value = subst (λ (x : List ℕ). StandsFor Piece x (bytes ++ more)) (sym (spaced-append (38 ∷ t) v.raw quiet)) (with_piece (38 ∷ t) bytes (spaced v.raw) more (inr is) v.is_value);
+      is_value = subst (λ (x : List ℕ). Denotes Piece x (bytes ++ more)) (sym (spaced-append (38 ∷ t) v.raw quiet)) (with_piece (38 ∷ t) bytes (spaced v.raw) more (inr is) v.is_value);
     }
 
 -- one character in front of a value
@@ -263,7 +263,7 @@ value_character quote x rest more behind c clean amp k apart v =
       raw = x ∷ v.raw;
       rest_is = ap (λ (t : List ℕ). x ∷ t) v.rest_is;
       inside = or_from (closes quote x) _ c v.inside;
-      is_value = subst (λ (t : List ℕ). StandsFor Piece t ((cond (is_white x) 32 x ∷ []) ++ more)) (sym (spaced-one x v.raw alone ∙ ap (λ (y : ℕ). y ∷ spaced v.raw) same))
+      is_value = subst (λ (t : List ℕ). Denotes Piece t ((cond (is_white x) 32 x ∷ []) ++ more)) (sym (spaced-one x v.raw alone ∙ ap (λ (y : ℕ). y ∷ spaced v.raw) same))
           (with_piece (cond (is_white x) 32 x ∷ []) (cond (is_white x) 32 x ∷ []) (spaced v.raw) more (inl (cond (is_white x) 32 x, plain.0, plain.1, plain.2, refl, refl)) v.is_value);
     }
   where
@@ -286,7 +286,7 @@ value_line_end quote rest more behind k s v = go v.raw v.rest_is v.inside v.is_v
     first : rest ≡ 10 ∷ drop 1 rest
     first = starts_front rest (codes "\n") s
 
-    go : (raw : List ℕ) → rest ≡ raw ++ quote ∷ behind → list_any (closes quote) raw ≡ false → StandsFor Piece (spaced raw) more → Value quote (13 ∷ rest) more behind
+    go : (raw : List ℕ) → rest ≡ raw ++ quote ∷ behind → list_any (closes quote) raw ≡ false → Denotes Piece (spaced raw) more → Value quote (13 ∷ rest) more behind
     go [] e i h = let f = first in absurd (no_quote k (cc))
       where
         no_quote : (quote ≡ 34) ⊎ (quote ≡ 39) → quote ≡ 10 → ⊥
@@ -298,7 +298,7 @@ value_line_end quote rest more behind k s v = go v.raw v.rest_is v.inside v.is_v
           raw = 13 ∷ y ∷ raw;
           rest_is = ap (λ (t : List ℕ). 13 ∷ t) e;
           inside = or_from (closes quote 13) _ (closes_13 k) i;
-          is_value = subst (λ (t : List ℕ). StandsFor Piece t more) (sym (both y raw lf)) h;
+          is_value = subst (λ (t : List ℕ). Denotes Piece t more) (sym (both y raw lf)) h;
         }
       where
         both : (z : ℕ) (m : List ℕ) → z ≡ 10 → spaced (13 ∷ z ∷ m) ≡ spaced (z ∷ m)

@@ -11,9 +11,9 @@ use Rattle.nzb_index.specs.declared.index.Meta.{Meta}
 use Rattle.nzb_index.specs.declared.index.Segment.{Segment}
 use Rattle.nzb_index.specs.declared.index.FileEntry.{FileEntry}
 use Rattle.nzb_index.specs.declared.index.Index.{Index}
-use Rattle.nzb_index.specs.Markup.{IsTextBytes, IsPlain, Attribute, AreAttributes, Checks, attribute, or_nothing, is_white, is_control, is_character, IsReference, trimmed, IsText, IsValue, AreElements, unchecked, is_message_id}
+use Rattle.nzb_index.specs.Markup.{IsTextBytes, IsPlainText, Attribute, AreAttributes, AttributeChecks, attribute, or_nothing, is_white, is_control, is_character, IsReference, trimmed, IsElementText, IsValue, AreElements, unchecked, is_message_id}
 use Rattle.nzb_index.specs.Canonical.{IsValidFile, IsValidIndex}
-use Rattle.nzb_index.specs.Nzb.{file_checks, IsMeta, IsGroup, IsSegment, Listed, groups, segments, IsListed, groups_in, segments_in, IsFile, Entry, head, file, IsEntry, metas_in, files_in, IsRoot, IsNzb}
+use Rattle.nzb_index.specs.Nzb.{file_checks, IsMeta, IsGroup, IsSegment, Listed, groups, segments, Lists, groups_in, segments_in, IsFile, Entry, head, file, IsEntry, metas_in, files_in, IsRoot, IsNzb}
 use Rattle.nzb_index.proofs.Attributes.{IsNumberOrNone, segment_numbers, file_date}
 use Rattle.nzb_index.proofs.TextsFound.{Piece}
 use Rattle.nzb_index.proofs.ElementsFound.{TextPiece}
@@ -107,7 +107,7 @@ pieces_clean : (IsPiece : List ℕ → List ℕ → Type 0) → ((t p : List ℕ
 pieces_clean IsPiece each [] all = refl
 pieces_clean IsPiece each ((t, p) ∷ pieces) all = both_clean p (flat_map (λ q. q.1) pieces) (each t p all.0) (pieces_clean IsPiece each pieces all.1)
 
-plain_clean : (t p : List ℕ) → IsPlain t p → IsTextBytes p
+plain_clean : (t p : List ℕ) → IsPlainText t p → IsTextBytes p
 plain_clean t p (b, n, l, clean, e, f) = rw f (or_from (is_control b) false clean refl)
 
 piece_clean : (t p : List ℕ) → Piece t p → IsTextBytes p
@@ -123,12 +123,12 @@ value_clean : (t bytes : List ℕ) → IsValue t bytes → IsTextBytes bytes
 value_clean t bytes (pieces, all, e, f) = rw f (pieces_clean Piece piece_clean pieces all)
 
 -- a text of the grammar has no control byte and no white at its ends
-text_valid : (t text : List ℕ) → IsText t text → IsTextBytes text × (trimmed text ≡ text)
+text_valid : (t text : List ℕ) → IsElementText t text → IsTextBytes text × (trimmed text ≡ text)
 text_valid t text (whole, (pieces, all, e, f), g) = (rw g (trimmed_clean whole (rw f (pieces_clean TextPiece text_piece_clean pieces all))), rw g (trimmed_twice whole))
 
 -- ---- tags and elements
 
-attributes_clean : (checks : Checks) (name : List ℕ) (earlier : List Attribute) (text : List ℕ) (attributes : List Attribute) → AreAttributes checks earlier text attributes → IsTextBytes (or_nothing (attribute name attributes))
+attributes_clean : (checks : AttributeChecks) (name : List ℕ) (earlier : List Attribute) (text : List ℕ) (attributes : List Attribute) → AreAttributes checks earlier text attributes → IsTextBytes (or_nothing (attribute name attributes))
 attributes_clean checks name earlier text [] are = refl
 attributes_clean checks name earlier text (a ∷ more) (first, rest, e, is, new, fits, are) =
     elim (cases_Bool (bytes_eq a.name name)) [
@@ -185,7 +185,7 @@ abbrev IsGoodListed : Listed → Type 0
 IsGoodListed (groups gs) = AllByRecursion (λ g. IsTextBytes g × (trimmed g ≡ g)) gs
 IsGoodListed (segments ss) = AllByRecursion IsGoodSegment ss
 
-listed_valid : (text : List ℕ) (x : Listed) → IsListed text x → IsGoodListed x
+listed_valid : (text : List ℕ) (x : Listed) → Lists text x → IsGoodListed x
 listed_valid text (groups gs) (attributes, inside, is, are) = elements_valid IsGroup (λ g. IsTextBytes g × (trimmed g ≡ g)) group_valid inside gs are
 listed_valid text (segments ss) (attributes, inside, is, are) = elements_valid IsSegment IsGoodSegment segment_valid inside ss are
 
@@ -211,7 +211,7 @@ file_valid text f is = go is (file_date text f is)
   where
     go : IsFile text f → ((attributes : List Attribute) × IsNumberOrNone (attribute (codes "date") attributes) 999999999999 f.date) → IsValidFile f
     go (attributes, inside, parts, e, are, poster, subject, date, gs, ss) (others, fits) =
-        let all = elements_valid IsListed IsGoodListed listed_valid inside parts are in
+        let all = elements_valid Lists IsGoodListed listed_valid inside parts are in
         record {
           poster = rw poster (attributes_clean file_checks (codes "poster") [] e.attribute_text attributes e.are_attributes);
           subject = rw subject (attributes_clean file_checks (codes "subject") [] e.attribute_text attributes e.are_attributes);

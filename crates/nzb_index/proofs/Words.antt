@@ -49,7 +49,7 @@ word_found (c ∷ w) (x ∷ text) rest e = elim (chosen (eqb c x) (word w text) 
 
 -- ---- up to the first of a word
 
-not_at : (x : ℕ) (text : List ℕ) (w : List ℕ) → starts_with nat_eq (x ∷ text) w ≡ false → (b : List ℕ) → x ∷ text ≡ w ++ b → ⊥
+pub not_at : (x : ℕ) (text : List ℕ) (w : List ℕ) → starts_with nat_eq (x ∷ text) w ≡ false → (b : List ℕ) → x ∷ text ≡ w ++ b → ⊥
 not_at x text w e b f = let s : starts_with nat_eq (x ∷ text) w ≡ true = rw f (front_starts w b) in absurd cc
 
 word_ends_itself : (w a b : List ℕ) → w ≡ a ++ w ++ b → b ≡ []

@@ -5,7 +5,7 @@ use Rattle.std.specs.List.{starts_with, list_all, list_any, prefix_len, concat, 
 use Rattle.std.proofs.lemmas.Bool.{ne_eqb, and_parts, and_from, or_parts, false_from_ne_true}
 use Rattle.std.proofs.lemmas.Bool.Decides.{nat_tests}
 use Rattle.std.proofs.lemmas.List.{length-append, nil_from_length}
-use Rattle.nzb_index.specs.Markup.{is_white, is_control, is_name_byte, IsWhite, IsName, IsComment, EndsAtFirst}
+use Rattle.nzb_index.specs.Markup.{is_white, is_control, is_name_byte, IsWhite, IsMarkupName, IsMarkupComment, EndsAtFirst}
 use Rattle.nzb_index.specs.MarkupReading.{Stop, up_to, behind_white, between_or, name_at, ◌>>=◌}
 use Rattle.nzb_index.proofs.Words.{starts_front, front_starts}
 
@@ -63,7 +63,7 @@ pub no_name_white : (w t : List ℕ) → IsWhite w → NoName t → NoName (w ++
 no_name_white [] t h n = n
 no_name_white (x ∷ w) t h n = record { byte = x; more = w ++ t; text_is = refl; is_none = white_no_name x (and_parts (is_white x) (list_all is_white w) h).0 }
 
-pub name_back : (name rest : List ℕ) → IsName name → NoName rest → name_at (name ++ rest) ≡ Ok (name, rest)
+pub name_back : (name rest : List ℕ) → IsMarkupName name → NoName rest → name_at (name ++ rest) ≡ Ok (name, rest)
 name_back name rest (some, all) n = go name some all
   where
     long : (m : List ℕ) → list_all is_name_byte m ≡ true → prefix_len is_name_byte (m ++ rest) ≡ length m
@@ -105,7 +105,7 @@ up_to_back c w front rest n ((inside, e, clean), first) = rw e (up_to_front c w 
 -- ---- white and comments
 
 pub between_back : (otherwise : List ℕ → Result (List ℕ) Stop) (rest : List ℕ) (r : Result (List ℕ) Stop) → ((k : ℕ) → between_or otherwise (suc k) rest ≡ r) →
-    (pieces : List (List ℕ)) (fuel : ℕ) → AllByRecursion (λ p. IsWhite p ⊎ IsComment p) pieces → length (concat pieces) ≤ fuel → between_or otherwise (suc fuel) (concat pieces ++ rest) ≡ r
+    (pieces : List (List ℕ)) (fuel : ℕ) → AllByRecursion (λ p. IsWhite p ⊎ IsMarkupComment p) pieces → length (concat pieces) ≤ fuel → between_or otherwise (suc fuel) (concat pieces ++ rest) ≡ r
 between_back otherwise rest r known [] fuel h l = known fuel
 between_back otherwise rest r known (p ∷ pieces) zero h l =
     let one : p ≡ [] = nil_from_length p (omega (arith, length-append p (concat pieces))) in

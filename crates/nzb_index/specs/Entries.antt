@@ -4,14 +4,14 @@ use Rattle.nzb_index.specs.declared.error.NzbError.{NzbError}
 use Rattle.nzb_index.specs.declared.index.FileEntry.{FileEntry}
 use Rattle.nzb_index.specs.declared.index.Index.{Index}
 use Rattle.nzb_index.specs.Markup.{attribute, number_of, or_nothing}
-use Rattle.nzb_index.specs.MarkupReading.{Stop, Reading, parent, tag_at, ◌>>=◌}
+use Rattle.nzb_index.specs.MarkupReading.{Stop, ValueRead, parent, tag_at, ◌>>=◌}
 use Rattle.nzb_index.specs.Nzb.{file_checks, segment_count}
 use Rattle.nzb_index.specs.NzbReading.{file_part}
 use Rattle.nzb_index.specs.Readers.{Fails}
 use Rattle.limits.specs.declared.TheConstants.{MOST_SEGMENTS}
 
 -- a file from behind its tag's name on
-abbrev pub file_at : ℕ → List ℕ → Reading FileEntry
+abbrev pub file_at : ℕ → List ℕ → ValueRead FileEntry
 file_at earlier rest =
     tag_at file_checks rest >>= λ tag.
     parent (file_part earlier) (codes "file") tag.0 (record {

@@ -4,6 +4,7 @@ pub mod MarkupReading
 pub mod Nzb
 pub mod NzbReading
 pub mod Refusal
+pub mod Broken
 pub mod Reasons
 pub mod Readers
 pub mod Tags

@@ -26,8 +26,8 @@ is_message_id id = nat_le 1 (length id) && nat_le (length id) 248 && list_all is
 abbrev pub IsWhite : List ℕ → Type 0
 IsWhite text = IsTrue (list_all is_white text)
 
-abbrev pub IsName : List ℕ → Type 0
-IsName name = (name ≢ []) × IsTrue (list_all is_name_byte name)
+abbrev pub IsMarkupName : List ℕ → Type 0
+IsMarkupName name = (name ≢ []) × IsTrue (list_all is_name_byte name)
 
 -- bytes that may stand in a text, a value, a comment and a declaration
 abbrev pub IsTextBytes : List ℕ → Type 0
@@ -37,12 +37,12 @@ IsTextBytes text = IsFalse (list_any is_control text)
 abbrev pub EndsAtFirst : List ℕ → List ℕ → Type 0
 EndsAtFirst text word = ((inside : List ℕ) × (text ≡ inside ++ word) × IsTextBytes inside) × ((a b : List ℕ) → text ≡ a ++ word ++ b → b ≡ [])
 
-abbrev pub IsComment : List ℕ → Type 0
-IsComment text = (rest : List ℕ) × (text ≡ codes "<!--" ++ rest) × EndsAtFirst rest (codes "-->")
+abbrev pub IsMarkupComment : List ℕ → Type 0
+IsMarkupComment text = (rest : List ℕ) × (text ≡ codes "<!--" ++ rest) × EndsAtFirst rest (codes "-->")
 
 -- white and comments
 abbrev pub IsBetween : List ℕ → Type 0
-IsBetween text = (pieces : List (List ℕ)) × (text ≡ concat pieces) × AllByRecursion (λ p. IsWhite p ⊎ IsComment p) pieces
+IsBetween text = (pieces : List (List ℕ)) × (text ≡ concat pieces) × AllByRecursion (λ p. IsWhite p ⊎ IsMarkupComment p) pieces
 
 -- without the white at both ends
 abbrev pub trimmed : List ℕ → List ℕ
@@ -69,12 +69,12 @@ abbrev pub IsReference : List ℕ → List ℕ → Type 0
 IsReference text bytes = (c : ℕ) × (IsNamedReference text c ⊎ IsNumericReference text c) × IsTrue (is_character c) × (bytes ≡ encode_utf8 c)
 
 -- a byte that stands for itself
-abbrev pub IsPlain : List ℕ → List ℕ → Type 0
-IsPlain text bytes = (b : ℕ) × (b ≢ 38) × (b ≢ 60) × IsFalse (is_control b) × (text ≡ b ∷ []) × (bytes ≡ b ∷ [])
+abbrev pub IsPlainText : List ℕ → List ℕ → Type 0
+IsPlainText text bytes = (b : ℕ) × (b ≢ 38) × (b ≢ 60) × IsFalse (is_control b) × (text ≡ b ∷ []) × (bytes ≡ b ∷ [])
 
 -- what a text of such pieces stands for
-abbrev pub StandsFor : (List ℕ → List ℕ → Type 0) → List ℕ → List ℕ → Type 0
-StandsFor IsPiece text bytes = (pieces : List (List ℕ × List ℕ)) × AllByRecursion (λ p. IsPiece p.0 p.1) pieces × (text ≡ flat_map (λ p. p.0) pieces) × (bytes ≡ flat_map (λ p. p.1) pieces)
+abbrev pub Denotes : (List ℕ → List ℕ → Type 0) → List ℕ → List ℕ → Type 0
+Denotes IsPiece text bytes = (pieces : List (List ℕ × List ℕ)) × AllByRecursion (λ p. IsPiece p.0 p.1) pieces × (text ≡ flat_map (λ p. p.0) pieces) × (bytes ≡ flat_map (λ p. p.1) pieces)
 
 -- the text with each line end and each TAB as one space
 abbrev pub spaced : List ℕ → List ℕ
@@ -85,11 +85,11 @@ spaced (x ∷ y ∷ more) =
     else (if x == 13 || x == 10 || x == 9 then 32 else x) ∷ spaced (y ∷ more)
 
 abbrev pub IsValue : List ℕ → List ℕ → Type 0
-IsValue text bytes = StandsFor (λ t p. IsPlain t p ⊎ IsReference t p) (spaced text) bytes
+IsValue text bytes = Denotes (λ t p. IsPlainText t p ⊎ IsReference t p) (spaced text) bytes
 
 -- an element's text: comments are skipped, and white at both ends is cut
-abbrev pub IsText : List ℕ → List ℕ → Type 0
-IsText text bytes = (whole : List ℕ) × StandsFor (λ t p. IsPlain t p ⊎ IsReference t p ⊎ (IsComment t × (p ≡ []))) text whole × (bytes ≡ trimmed whole)
+abbrev pub IsElementText : List ℕ → List ℕ → Type 0
+IsElementText text bytes = (whole : List ℕ) × Denotes (λ t p. IsPlainText t p ⊎ IsReference t p ⊎ (IsMarkupComment t × (p ≡ []))) text whole × (bytes ≡ trimmed whole)
 
 -- ---- tags and elements
 
@@ -106,7 +106,7 @@ pub record IsAttribute (text : List ℕ) (a : Attribute) : Type 0 where
   pub text_is : text ≡ before ++ a.name ++ behind_name ++ codes "=" ++ behind_equals ++ quote ∷ value ++ quote ∷ []
   pub apart : before ≢ []
   pub white : IsWhite before × IsWhite behind_name × IsWhite behind_equals
-  pub is_name : IsName a.name
+  pub is_name : IsMarkupName a.name
   pub is_quote : (quote ≡ 34) ⊎ (quote ≡ 39)
   pub within_quotes : IsFalse (list_any (λ b. b == quote || b == 60) value)
   pub is_value : IsValue value a.value
@@ -127,20 +127,20 @@ abbrev pub number_of : List ℕ → List Attribute → ℕ
 number_of name attributes = or_zero (decimal_of (or_nothing (attribute name attributes)))
 
 -- which values an element's attributes may have, by their names
-abbrev pub Checks : Type 0
-Checks = List ℕ → List ℕ → Bool
+abbrev pub AttributeChecks : Type 0
+AttributeChecks = List ℕ → List ℕ → Bool
 
-abbrev pub unchecked : Checks
+abbrev pub unchecked : AttributeChecks
 unchecked name value = true
 
 -- attributes behind these earlier ones of their tag: no name stands twice, and each value is one that the element allows
-abbrev pub AreAttributes : Checks → List Attribute → List ℕ → List Attribute → Type 0
+abbrev pub AreAttributes : AttributeChecks → List Attribute → List ℕ → List Attribute → Type 0
 AreAttributes checks earlier text [] = text ≡ []
 AreAttributes checks earlier text (a ∷ more) = (first rest : List ℕ) × (text ≡ first ++ rest) × IsAttribute first a × IsFalse (has_attribute a.name earlier)
     × IsTrue (checks a.name a.value) × AreAttributes checks (earlier ++ a ∷ []) rest more
 
 -- an element of this name, with its attributes and what stands between its tags
-pub record IsElement (checks : Checks) (name text : List ℕ) (attributes : List Attribute) (inside : List ℕ) : Type 0 where
+pub record IsElement (checks : AttributeChecks) (name text : List ℕ) (attributes : List Attribute) (inside : List ℕ) : Type 0 where
   pub attribute_text : List ℕ
   pub white : List ℕ
   pub are_attributes : AreAttributes checks [] attribute_text attributes

@@ -2,7 +2,7 @@
 use Rattle.std.specs.Prelude.{◌≡◌, ℕ, ◌≤◌, true, ◌||◌, ◌==◌, if◌then◌else◌, List, [], ◌∷◌, ◌++◌, length, ◌⊎◌, sum_by, is_some, codes, bytes_eq, IsTrue, IsFalse}
 use Rattle.std.specs.List.{flat_map, list_any}
 use Rattle.numbers.specs.Numbers.{decimal_of, within}
-use Rattle.nzb_index.specs.Markup.{is_white, is_control, is_message_id, EndsAtFirst, IsBetween, IsText, Attribute, attribute, has_attribute, or_nothing, number_of, Checks, unchecked, IsElement, AreElements}
+use Rattle.nzb_index.specs.Markup.{is_white, is_control, is_message_id, EndsAtFirst, IsBetween, IsElementText, Attribute, attribute, has_attribute, or_nothing, number_of, AttributeChecks, unchecked, IsElement, AreElements}
 use Rattle.nzb_index.specs.declared.index.Meta.{Meta}
 use Rattle.nzb_index.specs.declared.index.Segment.{Segment}
 use Rattle.nzb_index.specs.declared.index.FileEntry.{FileEntry}
@@ -12,18 +12,18 @@ use Rattle.limits.specs.declared.TheConstants.{MOST_FILES, MOST_SEGMENTS, MOST_T
 -- ---- the elements of an NZB
 
 abbrev pub IsMeta : List ℕ → Meta → Type 0
-IsMeta text m = (attributes : List Attribute) × (inside : List ℕ) × IsElement unchecked (codes "meta") text attributes inside × (m.kind ≡ or_nothing (attribute (codes "type") attributes)) × IsText inside m.text
+IsMeta text m = (attributes : List Attribute) × (inside : List ℕ) × IsElement unchecked (codes "meta") text attributes inside × (m.kind ≡ or_nothing (attribute (codes "type") attributes)) × IsElementText inside m.text
 
 abbrev pub IsHead : List ℕ → List Meta → Type 0
 IsHead text metas = (attributes : List Attribute) × (inside : List ℕ) × IsElement unchecked (codes "head") text attributes inside × AreElements IsMeta inside metas
 
 abbrev pub IsGroup : List ℕ → List ℕ → Type 0
-IsGroup text group = (attributes : List Attribute) × (inside : List ℕ) × IsElement unchecked (codes "group") text attributes inside × IsText inside group
+IsGroup text group = (attributes : List Attribute) × (inside : List ℕ) × IsElement unchecked (codes "group") text attributes inside × IsElementText inside group
 
 abbrev pub IsGroups : List ℕ → List (List ℕ) → Type 0
 IsGroups text groups = (attributes : List Attribute) × (inside : List ℕ) × IsElement unchecked (codes "groups") text attributes inside × AreElements IsGroup inside groups
 
-abbrev pub segment_checks : Checks
+abbrev pub segment_checks : AttributeChecks
 segment_checks name value =
     if bytes_eq name (codes "number") then is_some (within 1 4294967295 (decimal_of value))
     else if bytes_eq name (codes "bytes") then is_some (within 0 999999999999 (decimal_of value)) else true
@@ -31,7 +31,7 @@ segment_checks name value =
 abbrev pub IsSegment : List ℕ → Segment → Type 0
 IsSegment text s = (attributes : List Attribute) × (inside : List ℕ) × IsElement segment_checks (codes "segment") text attributes inside
     × IsTrue (has_attribute (codes "number") attributes) × (s.number ≡ number_of (codes "number") attributes) × (s.bytes ≡ number_of (codes "bytes") attributes)
-    × IsText inside s.id × IsTrue (is_message_id s.id)
+    × IsElementText inside s.id × IsTrue (is_message_id s.id)
 
 abbrev pub IsSegments : List ℕ → List Segment → Type 0
 IsSegments text segments = (attributes : List Attribute) × (inside : List ℕ) × IsElement unchecked (codes "segments") text attributes inside × AreElements IsSegment inside segments
@@ -41,9 +41,9 @@ pub data Listed : Type 0 where
   groups : List (List ℕ) → Listed
   segments : List Segment → Listed
 
-abbrev pub IsListed : List ℕ → Listed → Type 0
-IsListed text (groups gs) = IsGroups text gs
-IsListed text (segments ss) = IsSegments text ss
+abbrev pub Lists : List ℕ → Listed → Type 0
+Lists text (groups gs) = IsGroups text gs
+Lists text (segments ss) = IsSegments text ss
 
 abbrev pub groups_in : Listed → List (List ℕ)
 groups_in (groups gs) = gs
@@ -53,11 +53,11 @@ abbrev pub segments_in : Listed → List Segment
 segments_in (groups gs) = []
 segments_in (segments ss) = ss
 
-abbrev pub file_checks : Checks
+abbrev pub file_checks : AttributeChecks
 file_checks name value = if bytes_eq name (codes "date") then is_some (within 0 999999999999 (decimal_of value)) else true
 
 abbrev pub IsFile : List ℕ → FileEntry → Type 0
-IsFile text f = (attributes : List Attribute) × (inside : List ℕ) × (parts : List Listed) × IsElement file_checks (codes "file") text attributes inside × AreElements IsListed inside parts
+IsFile text f = (attributes : List Attribute) × (inside : List ℕ) × (parts : List Listed) × IsElement file_checks (codes "file") text attributes inside × AreElements Lists inside parts
     × (f.poster ≡ or_nothing (attribute (codes "poster") attributes)) × (f.subject ≡ or_nothing (attribute (codes "subject") attributes)) × (f.date ≡ number_of (codes "date") attributes)
     × (f.groups ≡ flat_map groups_in parts) × (f.segments ≡ flat_map segments_in parts)
 

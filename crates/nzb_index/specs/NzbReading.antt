@@ -1,10 +1,10 @@
--- Reading an NZB text from left to right, on lists: its index, or the refusal that is known first.
+-- ValueRead an NZB text from left to right, on lists: its index, or the refusal that is known first.
 use Rattle.std.specs.Prelude.{ℕ, suc, ◌+◌, ◌-◌, true, nat_lt, nat_eq, ◌==◌, if◌then◌else◌, List, [], ◌∷◌, ◌++◌, length, Option, Some, None, Result, Ok, Err, codes, bytes_eq}
 use Rattle.std.specs.List.{starts_with}
 use Rattle.nzb_index.specs.declared.error.NzbReason.TheVariants.{WrongTag, NoNumber, BadId, Subset}
 use Rattle.nzb_index.specs.Markup.{is_control, is_message_id, attribute, has_attribute, or_nothing, number_of, unchecked}
 use Rattle.nzb_index.specs.Nzb.{segment_checks, file_checks, segment_count}
-use Rattle.nzb_index.specs.MarkupReading.{Stop, Reading, ◌>>=◌, stop_at, unexpected, word, up_to, name_at, one_white, between_or, between, tag_at, parent, leaf, only, no_fault, refused, limit}
+use Rattle.nzb_index.specs.MarkupReading.{Stop, ValueRead, ◌>>=◌, stop_at, unexpected, word, up_to, name_at, one_white, between_or, between, tag_at, parent, leaf, only, no_fault, refused, limit}
 use Rattle.nzb_index.specs.declared.index.Meta.{Meta}
 use Rattle.nzb_index.specs.declared.index.Segment.{Segment}
 use Rattle.nzb_index.specs.declared.index.FileEntry.{FileEntry}
@@ -14,14 +14,14 @@ use Rattle.nzb_index.specs.declared.error.NzbLimit.{NzbLimit}
 use Rattle.nzb_index.specs.declared.error.NzbLimit.TheVariants as limits
 use Rattle.limits.specs.declared.TheConstants.{MOST_FILES, MOST_SEGMENTS, MOST_TEXT_BYTES}
 
-abbrev pub meta_item : List Meta → List ℕ → List ℕ → List ℕ → Reading (List Meta)
+abbrev pub meta_item : List Meta → List ℕ → List ℕ → List ℕ → ValueRead (List Meta)
 meta_item metas name from rest = do
   ok ← only (codes "meta") name from
   tag ← tag_at unchecked rest
   text ← leaf (codes "meta") no_fault tag.0 tag.1
   Ok (metas ++ record { kind = or_nothing (attribute (codes "type") tag.0.attributes); text = text.0 } ∷ [], text.1)
 
-abbrev pub group_item : List (List ℕ) → List ℕ → List ℕ → List ℕ → Reading (List (List ℕ))
+abbrev pub group_item : List (List ℕ) → List ℕ → List ℕ → List ℕ → ValueRead (List (List ℕ))
 group_item groups name from rest = do
   ok ← only (codes "group") name from
   tag ← tag_at unchecked rest
@@ -32,7 +32,7 @@ abbrev pub bad_id : List ℕ → List ℕ → Option Stop
 bad_id from id = if is_message_id id then None else Some (refused (length from) BadId)
 
 -- `earlier` segments stand in the files before this one
-abbrev pub segment_item : ℕ → List Segment → List ℕ → List ℕ → List ℕ → Reading (List Segment)
+abbrev pub segment_item : ℕ → List Segment → List ℕ → List ℕ → List ℕ → ValueRead (List Segment)
 segment_item earlier segments name from rest = do
   ok ← only (codes "segment") name from
   room ← if nat_lt (earlier + length segments) MOST_SEGMENTS then Ok true else Err (limit limits.Segments)
@@ -41,7 +41,7 @@ segment_item earlier segments name from rest = do
   id ← leaf (codes "segment") (bad_id from) tag.0 tag.1
   Ok (segments ++ record { number = number_of (codes "number") tag.0.attributes; bytes = number_of (codes "bytes") tag.0.attributes; id = id.0 } ∷ [], id.1)
 
-abbrev pub file_part : ℕ → FileEntry → List ℕ → List ℕ → List ℕ → Reading FileEntry
+abbrev pub file_part : ℕ → FileEntry → List ℕ → List ℕ → List ℕ → ValueRead FileEntry
 file_part earlier f name from rest =
     if bytes_eq name (codes "groups")
     then (tag_at unchecked rest >>= λ tag. parent group_item (codes "groups") tag.0 f.groups tag.1 >>= λ g. Ok (record f { groups = g.0 }, g.1))
@@ -52,7 +52,7 @@ file_part earlier f name from rest =
 abbrev pub with_file : Index → FileEntry → Index
 with_file i f = record i { files = i.files ++ f ∷ [] }
 
-abbrev pub entry_item : Index → List ℕ → List ℕ → List ℕ → Reading Index
+abbrev pub entry_item : Index → List ℕ → List ℕ → List ℕ → ValueRead Index
 entry_item i name from rest =
     if bytes_eq name (codes "head")
     then (tag_at unchecked rest >>= λ tag. parent meta_item (codes "head") tag.0 i.metas tag.1 >>= λ m. Ok (record i { metas = m.0 }, m.1))

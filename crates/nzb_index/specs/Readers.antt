@@ -73,21 +73,21 @@ abbrev pub stands_in_text : ℕ → Bool
 stands_in_text byte = not (byte == 38) && not (byte == 60) && not (is_control byte)
 
 -- a reader with as much fuel as there is text goes on from a place to another, behind these bytes
-pub record GoesOn (reader : ℕ → List ℕ → Result (List ℕ × List ℕ) Stop) (text : List ℕ) (at end : ℕ) (more : List ℕ) (fuel : ℕ) : Type 0 where
+pub record ReadsOn (reader : ℕ → List ℕ → Result (List ℕ × List ℕ) Stop) (text : List ℕ) (at end : ℕ) (more : List ℕ) (fuel : ℕ) : Type 0 where
   pub left : ℕ
   pub fits : length (drop end text) ≤ left
   pub reads : reader fuel (drop at text) ≡ with_front more (reader left (drop end text))
 
 abbrev pub Steps : (ℕ → List ℕ → Result (List ℕ × List ℕ) Stop) → List ℕ → ℕ → ℕ → List ℕ → Type 0
-Steps reader text at end more = (fuel : ℕ) → length (drop at text) ≤ fuel → GoesOn reader text at end more fuel
+Steps reader text at end more = (fuel : ℕ) → length (drop at text) ≤ fuel → ReadsOn reader text at end more fuel
 
-abbrev pub EndsAt : (ℕ → List ℕ → Result (List ℕ × List ℕ) Stop) → List ℕ → ℕ → ℕ → Type 0
-EndsAt reader text at end = (fuel : ℕ) → length (drop at text) ≤ fuel → reader fuel (drop at text) ≡ Ok ([], drop end text)
+abbrev pub ReadingEndsAt : (ℕ → List ℕ → Result (List ℕ × List ℕ) Stop) → List ℕ → ℕ → ℕ → Type 0
+ReadingEndsAt reader text at end = (fuel : ℕ) → length (drop at text) ≤ fuel → reader fuel (drop at text) ≡ Ok ([], drop end text)
 
 abbrev pub FailsAt : (ℕ → List ℕ → Result (List ℕ × List ℕ) Stop) → List ℕ → ℕ → NzbError → Type 0
 FailsAt reader text at e = (fuel : ℕ) → length (drop at text) ≤ fuel → Fails text e (reader fuel (drop at text))
 
 abbrev pub ReadsPiece : (ℕ → List ℕ → Result (List ℕ × List ℕ) Stop) → List ℕ → ℕ → List ℕ → List ℕ → Result Piece NzbError → Type 0
 ReadsPiece reader text at old new (Ok (Goes end)) = (at < end) × (end ≤ length text) × ((more : List ℕ) × (new ≡ old ++ more) × Steps reader text at end more)
-ReadsPiece reader text at old new (Ok (Ends end)) = (at ≤ end) × (end ≤ length text) × (new ≡ old) × EndsAt reader text at end
+ReadsPiece reader text at old new (Ok (Ends end)) = (at ≤ end) × (end ≤ length text) × (new ≡ old) × ReadingEndsAt reader text at end
 ReadsPiece reader text at old new (Err e) = FailsAt reader text at e

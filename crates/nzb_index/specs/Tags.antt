@@ -9,7 +9,7 @@ use Rattle.nzb_index.specs.declared.error.NzbError.{NzbError}
 use Rattle.nzb_index.specs.declared.tags.Element.{Element}
 use Rattle.nzb_index.specs.declared.tags.TheConstants.{FEW_NAMES}
 use Rattle.nzb_index.specs.declared.tags.Element.TheVariants.{Plain, File, Segment}
-use Rattle.nzb_index.specs.Markup.{Attribute, Checks, unchecked}
+use Rattle.nzb_index.specs.Markup.{Attribute, AttributeChecks, unchecked}
 use Rattle.nzb_index.specs.Nzb.{file_checks, segment_checks}
 use Rattle.nzb_index.specs.MarkupReading.{Stop, Tag}
 use Rattle.nzb_index.specs.Readers.{Fails}
@@ -30,7 +30,7 @@ abbrev pub HasLater : BTreeSet (Bor (List ℕ)) → List (List ℕ) → Type 0
 HasLater later names = (q : List ℕ) → contains_by (λ k. slice_cmp nat_cmp q k.now) later ≡ is_some (place_of q (drop FEW_NAMES names))
 
 -- which values an element's attributes may have
-abbrev pub checks_of : Element → Checks
+abbrev pub checks_of : Element → AttributeChecks
 checks_of Plain = unchecked
 checks_of File = file_checks
 checks_of Segment = segment_checks

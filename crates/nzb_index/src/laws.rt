@@ -1,6 +1,6 @@
 // The laws of NZB texts.
-ghost use Rattle.nzb_index.specs.Reasons.{EndedAtEnd, IsOneOf};
-ghost use Rattle.nzb_index.specs.declared.error.NzbReason.TheVariants.{BadId, BadNumber, BadReference, DoubleAttribute, NoNumber, Subset, WrongTag};
+ghost use Rattle.nzb_index.specs.Reasons.{EndedAtEnd, IsOneOf, ReasonsAreTold};
+ghost use Rattle.nzb_index.specs.declared.error.NzbReason.TheVariants.{BadId, BadNumber, BadReference, DoubleAttribute, NoNumber, Subset, Unexpected, WrongTag};
 ghost use Rattle.nzb_index.specs.Refusal.{NzbReadsBack, IndexIsValid, KnownFirst, OneAnswer};
 
 /// Each text has exactly one of an index, a refusal and a limit.
@@ -28,6 +28,7 @@ pub fn nzb_reads_back()
 /// is refused by its end is told at its length.
 pub fn reasons_are_had()
     ensures ended { EndedAtEnd }
+    ensures unexpected { IsOneOf Unexpected }
     ensures bad_reference { IsOneOf BadReference }
     ensures wrong_tag { IsOneOf WrongTag }
     ensures double_attribute { IsOneOf DoubleAttribute }
@@ -35,4 +36,10 @@ pub fn reasons_are_had()
     ensures no_number { IsOneOf NoNumber }
     ensures bad_id { IsOneOf BadId }
     ensures subset { IsOneOf Subset }
+{}
+
+/// A text that has a reason of the table at a place is refused for it there, if it passes no limit before; only what cannot
+/// become a reference, and runs up to the text's end, is refused for that end.
+pub fn reasons_are_told()
+    ensures { ReasonsAreTold }
 {}

@@ -7,8 +7,8 @@ ghost use Rattle.nzb_index.specs.MarkupReading.{one_white};
 ghost use Rattle.nzb_index.specs.Nzb.{IsNzb};
 ghost use Rattle.nzb_index.specs.NzbReading.{Refusal, behind_declaration, behind_mark, behind_type, index_at, type_end};
 ghost use Rattle.nzb_index.specs.Readers.{ReadsTo};
-ghost use Rattle.nzb_index.specs.Refusal.{IsRefused};
-ghost use Rattle.nzb_index.specs.ReadNzb.{Answers, IsError, ReadsIndex, ReadsRoot};
+ghost use Rattle.nzb_index.specs.Refusal.{IsTextRefused};
+ghost use Rattle.nzb_index.specs.ReadNzb.{NzbAnswers, IsError, ReadsEnd, FindsIndex, ReadsRoot, ReadsRootName, behind_root};
 
 use crate::entries::entries_end;
 use crate::scan::{
@@ -25,18 +25,18 @@ use std::alloc::Global;
 /// known first, with its place, or for a limit that is passed before any reason is known. Only what the index keeps takes
 /// memory, beside room for one start tag.
 pub fn read_nzb(alloc: Global, text: &[u8]) -> Result<Index, NzbError>
-    ensures answer { Answers text.now result }
+    ensures answer { NzbAnswers text.now result }
     ensures valid { IfOk result IsValidIndex }
 
     // No text with an index is refused, and none without is read to one, but for want of memory.
     ensures each_index { (index : Index) → IsNzb text.now index → (result ≡ Ok index) ⊎ (result ≡ Err NoMemory) }
-    ensures each_refusal { (refusal : Refusal) → IsRefused text.now refusal → IsError refusal result ⊎ (result ≡ Err NoMemory) }
+    ensures each_refusal { (refusal : Refusal) → IsTextRefused text.now refusal → IsError refusal result ⊎ (result ≡ Err NoMemory) }
 {
     read_text(alloc, text)
 }
 
 fn read_text(alloc: Global, text: &[u8]) -> Result<Index, NzbError>
-    ensures { Answers text.now result }
+    ensures { NzbAnswers text.now result }
 {
     if text.len() > MOST_TEXT_BYTES as usize {
         return Err(NzbError::Limit(NzbLimit::TextBytes));
@@ -45,7 +45,25 @@ fn read_text(alloc: Global, text: &[u8]) -> Result<Index, NzbError>
 }
 
 fn read_index(alloc: Global, text: &[u8]) -> Result<Index, NzbError>
-    ensures { ReadsIndex text.now result (index_at text.now) }
+    ensures { FindsIndex text.now result (index_at text.now) }
+{
+    let name = root_name_end(text)?;
+    let mut scratch = Scratch::new(alloc);
+    let (closed, at) = tag_end(text, name, Element::Plain, &mut scratch)?;
+    let mut index = Index {
+        metas: List::new(alloc),
+        files: List::new(alloc),
+    };
+    let end = entries_end(alloc, text, at, closed, &mut index, &mut scratch)?;
+    match text_ended(text, end) {
+        Ok(()) => Ok(index),
+        Err(error) => Err(error),
+    }
+}
+
+// The place behind the root's name.
+fn root_name_end(text: &[u8]) -> Result<usize, NzbError>
+    ensures { ReadsRootName text.now result (index_at text.now) }
 {
     let marked = mark_end(text)?;
     let declared = declaration_end(text, marked)?;
@@ -55,19 +73,20 @@ fn read_index(alloc: Global, text: &[u8]) -> Result<Index, NzbError>
     if &text[inside..name] != b"nzb".as_slice() {
         return Err(refused(here, NzbReason::WrongTag));
     }
-    let mut scratch = Scratch::new(alloc);
-    let (closed, at) = tag_end(text, name, Element::Plain, &mut scratch)?;
-    let mut index = Index {
-        metas: List::new(alloc),
-        files: List::new(alloc),
-    };
-    let end = entries_end(alloc, text, at, closed, &mut index, &mut scratch)?;
-    let behind = between_end(text, end)?;
-    if behind != text.len() {
-        let after = word_end(text, behind, b"<!--")?;
-        return Err(unexpected(text, after));
+    Ok(name)
+}
+
+// White and comments alone stand from a place on.
+fn text_ended(text: &[u8], at: usize) -> Result<(), NzbError>
+    requires { at ≤ length text.now }
+    ensures { ReadsEnd text.now result (behind_root (drop at text.now)) }
+{
+    let behind = between_end(text, at)?;
+    if behind == text.len() {
+        return Ok(());
     }
-    Ok(index)
+    let after = word_end(text, behind, b"<!--")?;
+    Err(unexpected(text, after))
 }
 
 // The place behind the byte order mark, if its first byte is there.

@@ -18,9 +18,9 @@ use Rattle.overview_lines.specs.OverLine.{Over}
 use Rattle.overview_lines.specs.OverReading.{over_of}
 use Rattle.overview_lines.specs.declared.count.Count.{Count}
 use Rattle.overview_lines.specs.declared.over.OverFault.{OverFault}
-use Rattle.overview_index.specs.Asking.{Fills}
-use Rattle.overview_index.specs.Group.{Counted, IsOverLimit, counted, counted_in, keys_of}
-use Rattle.overview_index.specs.Grouper.{IsAnswer, IsEntryOf, StandsFor}
+use Rattle.overview_index.specs.Asking.{WouldFill}
+use Rattle.overview_index.specs.Group.{Counted, WouldPass, counted, counted_in, keys_of}
+use Rattle.overview_index.specs.Grouper.{AddAnswers, IsEntryOf, HasGrouped}
 use Rattle.overview_index.specs.Session.{lines_in, overs_in, skipped_in, is_skipped, is_skipped_at, FitAnIndex}
 use Rattle.overview_index.specs.declared.added.GroupError.{GroupError}
 use Rattle.overview_index.specs.declared.added.GroupError.TheVariants.{Memory, Segments, Files}
@@ -97,19 +97,19 @@ skipped_uncounted before line over is none =
 -- ---- where a line isn't added
 
 -- lines for which a grouper stands pass no limit
-fits : (grouper : Grouper) (group : List ℕ) (lines : List Over) → StandsFor grouper group lines → FitAnIndex lines
+fits : (grouper : Grouper) (group : List ℕ) (lines : List Over) → HasGrouped grouper group lines → FitAnIndex lines
 fits grouper group lines s =
     let articles : List Counted = counted_in lines in (
       omega (arith, s.files.count, s.files.few_segments),
       omega (arith, length_zip (IsEntryOf articles) (keys_of articles) grouper.files.entries s.files.files, s.files.few_files),
     )
 
-over_limit : (grouper : Grouper) (group : List ℕ) (lines : List Over) (line : Over) (reason : GroupError) → reason ≢ Memory → IsAnswer grouper group lines line (Err reason) → IsOverLimit lines line reason
+over_limit : (grouper : Grouper) (group : List ℕ) (lines : List Over) (line : Over) (reason : GroupError) → reason ≢ Memory → AddAnswers grouper group lines line (Err reason) → WouldPass lines line reason
 over_limit grouper group lines line Memory some answer = absurd (some refl)
 over_limit grouper group lines line Segments some answer = answer.0
 over_limit grouper group lines line Files some answer = answer.0
 
-pub fills_here : (was now : Grouper) (group : List ℕ) (before : List (List ℕ)) (line : List ℕ) (over : Over) (reason : GroupError) → over_of line ≡ Ok over → StandsFor was group (overs_in before) → reason ≢ Memory → IsAnswer now group (overs_in before) over (Err reason) → Fills before (line ∷ []) reason
+pub fills_here : (was now : Grouper) (group : List ℕ) (before : List (List ℕ)) (line : List ℕ) (over : Over) (reason : GroupError) → over_of line ≡ Ok over → HasGrouped was group (overs_in before) → reason ≢ Memory → AddAnswers now group (overs_in before) over (Err reason) → WouldFill before (line ∷ []) reason
 fills_here was now group before line over reason is stands some answer =
     let same : overs_in before ≡ overs_in before ++ [] = sym (append-nil (overs_in before)) in
     record {
@@ -118,11 +118,11 @@ fills_here was now group before line over reason is stands some answer =
       behind = [];
       lines_are = over_alone line over is;
       fits = subst (λ (lines : List Over). FitAnIndex lines) same (fits was group (overs_in before) stands);
-      over = subst (λ (lines : List Over). IsOverLimit lines over reason) same (over_limit now group (overs_in before) over reason some answer);
+      over = subst (λ (lines : List Over). WouldPass lines over reason) same (over_limit now group (overs_in before) over reason some answer);
     }
 
 -- one of several lines
-pub fills_among : (before lines : List (List ℕ)) (i : ℕ) (line : List ℕ) (reason : GroupError) → slice_get lines i ≡ Some line → Fills (before ++ take i lines) (line ∷ []) reason → Fills before lines reason
+pub fills_among : (before lines : List (List ℕ)) (i : ℕ) (line : List ℕ) (reason : GroupError) → slice_get lines i ≡ Some line → WouldFill (before ++ take i lines) (line ∷ []) reason → WouldFill before lines reason
 fills_among before lines i line reason there f =
     let first : List (List ℕ) = take i lines in
     let rest : List (List ℕ) = drop (suc i) lines in
@@ -135,7 +135,7 @@ fills_among before lines i line reason there f =
           ∙ ap (λ l. overs_in first ++ l) (overs-append (line ∷ []) rest ∙ ap (λ l. l ++ overs_in rest) f.lines_are ∙ append_assoc f.front (f.line ∷ f.behind) (overs_in rest))
           ∙ sym (append_assoc (overs_in first) f.front (f.line ∷ f.behind ++ overs_in rest));
       fits = subst (λ (l : List Over). FitAnIndex l) same f.fits;
-      over = subst (λ (l : List Over). IsOverLimit l f.line reason) same f.over;
+      over = subst (λ (l : List Over). WouldPass l f.line reason) same f.over;
     }
 
 -- ---- the lines of a reply

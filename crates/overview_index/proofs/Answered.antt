@@ -13,8 +13,8 @@ use Rattle.overview_lines.specs.Count.{count_of}
 use Rattle.overview_lines.specs.OverLine.{Over}
 use Rattle.overview_lines.specs.declared.count.Count.{Count}
 use Rattle.overview_index.specs.Draft.{HasSegmentMore, IsDraftOf, IsSameDraft}
-use Rattle.overview_index.specs.Group.{Counted, IsOverLimit, counted, counted_in, has_key, key_of, keys_of, number_of, parts_of, same_key, same_part}
-use Rattle.overview_index.specs.Grouper.{BeginsFile, ChangesFile, HasFileMore, HasFilesOf, IsAnswer, IsEntryOf, IsRead, PutsArticle, StandsFor, count_behind, count_in, is_spelled, spelled}
+use Rattle.overview_index.specs.Group.{Counted, WouldPass, counted, counted_in, has_key, key_of, keys_of, number_of, parts_of, same_key, same_part}
+use Rattle.overview_index.specs.Grouper.{BeginsFile, ChangesFile, HasFileMore, HasFilesOf, AddAnswers, IsEntryOf, IsArticleRead, PutsArticle, HasGrouped, count_behind, count_in, is_spelled, spelled}
 use Rattle.overview_index.specs.declared.added.Added.{Added}
 use Rattle.overview_index.specs.declared.added.Added.TheVariants.{New, Repeat, NoCount}
 use Rattle.overview_index.specs.declared.added.GroupError.{GroupError}
@@ -33,7 +33,7 @@ own_key a = (same_key-Decides (key_of a) (key_of a)).1 refl
 
 -- ---- what is there already
 
-module _ (old : Grouper) (group : List ℕ) (articles : List Counted) (a : Counted) (read : IsRead a) (stands : HasFilesOf old group articles) where
+module _ (old : Grouper) (group : List ℕ) (articles : List Counted) (a : Counted) (read : IsArticleRead a) (stands : HasFilesOf old group articles) where
   -- the table has the file of the article where an earlier article has its key
   file_there : is_some (lookup (is_spelled (spelled (key_of a))) old.files.entries) ≡ list_any (λ other. has_key (key_of other) a) articles
   file_there = lookup-any (key_of a) read.over.from.plain articles (keys_of articles) old.files.entries stands.files ∙ key_there articles (key_of a)
@@ -47,7 +47,7 @@ module _ (old : Grouper) (group : List ℕ) (articles : List Counted) (a : Count
 
 -- ---- what it stands for then
 
-module _ (old new : Grouper) (group : List ℕ) (articles : List Counted) (a : Counted) (read : IsRead a) (stands : HasFilesOf old group articles) (same_group : new.group ≡ old.group) where
+module _ (old new : Grouper) (group : List ℕ) (articles : List Counted) (a : Counted) (read : IsArticleRead a) (stands : HasFilesOf old group articles) (same_group : new.group ≡ old.group) where
   -- the same files
   unchanged : new.files.entries ≡ old.files.entries → new.count ≡ old.count → HasFilesOf new group articles
   unchanged files count = record {
@@ -95,7 +95,7 @@ module _ (old new : Grouper) (group : List ℕ) (articles : List Counted) (a : C
         → HasFilesOf new group (articles ++ a ∷ [])
     set_more is count in_files few = record {
       group_is = same_group ∙ stands.group_is;
-      read = All-push IsRead articles a stands.read read;
+      read = All-push IsArticleRead articles a stands.read read;
       files = subst (λ ks. AllZip (IsEntryOf (articles ++ a ∷ [])) ks new.files.entries) (sym (keys_stay articles a any_there)) (
           subst (AllZip (IsEntryOf (articles ++ a ∷ [])) (keys_of articles)) (sym files)
           (files_set (key_of a) read.over.from.plain articles (articles ++ a ∷ []) (λ x e apart is'. entry_kept a articles x e apart is') behind is
@@ -130,7 +130,7 @@ module _ (old new : Grouper) (group : List ℕ) (articles : List Counted) (a : C
       let mine : list_any (has_key k) articles ≡ false = ap (λ (f : Counted → Bool). list_any f articles) (λ i x. same_key-sym k (key_of x) i) ∙ absent in
       record {
         group_is = same_group ∙ stands.group_is;
-        read = All-push IsRead articles a stands.read read;
+        read = All-push IsArticleRead articles a stands.read read;
         files = subst (λ ks. AllZip (IsEntryOf (articles ++ a ∷ [])) ks new.files.entries) (sym (keys_more articles a absent)) (
             subst (AllZip (IsEntryOf (articles ++ a ∷ [])) (keys_of articles ++ k ∷ [])) (sym more.files)
             (AllZip-push (IsEntryOf (articles ++ a ∷ [])) (keys_of articles) old.files.entries k (more.key, more.draft)
@@ -153,13 +153,13 @@ module _ (old new : Grouper) (group : List ℕ) (articles : List Counted) (a : C
 some_same : (x y : Counted) (o : Option Counted) → o ≡ Some x → o ≡ Some y → x ≡ y
 some_same x y o p q = cc
 
-module _ (old new : Grouper) (group : List ℕ) (lines : List Over) (line : Over) (a : Counted) (is : counted line ≡ Some a) (read : IsRead a) (stands : StandsFor old group lines) (same_group : new.group ≡ old.group) where
-  behind_line : HasFilesOf new group (counted_in lines ++ a ∷ []) → StandsFor new group (lines ++ line ∷ [])
+module _ (old new : Grouper) (group : List ℕ) (lines : List Over) (line : Over) (a : Counted) (is : counted line ≡ Some a) (read : IsArticleRead a) (stands : HasGrouped old group lines) (same_group : new.group ≡ old.group) where
+  behind_line : HasFilesOf new group (counted_in lines ++ a ∷ []) → HasGrouped new group (lines ++ line ∷ [])
   behind_line files = record { files = subst (HasFilesOf new group) (sym (counted_more lines line a is)) files }
 
   -- the files within their limit, or the article is of a file that is there
   changed : (result : Result Added GroupError) → ChangesFile a (spelled (key_of a)) old.count old.files.entries new.files.entries result
-      → ((added : Added) → result ≡ Ok added → new.count ≡ count_behind old.count added) → ((error : GroupError) → result ≡ Err error → new.count ≡ old.count) → IsAnswer new group lines line result
+      → ((added : Added) → result ≡ Ok added → new.count ≡ count_behind old.count added) → ((error : GroupError) → result ≡ Err error → new.count ≡ old.count) → AddAnswers new group lines line result
   changed (Ok New) ch counts stays =
       let adds = ch.adds in
       let part : list_any (λ other. same_part other a) (counted_in lines) ≡ false = sym (number_there old group (counted_in lines) a read stands.files ch.before ch.there) ∙ ap is_some adds.0 in
@@ -169,7 +169,7 @@ module _ (old new : Grouper) (group : List ℕ) (lines : List Over) (line : Over
         behind_line (more_stands old new group (counted_in lines) a read stands.files same_group ch.before ch.behind ch.there ch.files adds.0 adds.2 adds.1 (counts New refl)),
       )
     where
-      within_limits_there : list_any (λ other. has_key (key_of other) a) (counted_in lines) ≡ true → old.count < MOST_SEGMENTS → (error : GroupError) → ¬ IsOverLimit lines line error
+      within_limits_there : list_any (λ other. has_key (key_of other) a) (counted_in lines) ≡ true → old.count < MOST_SEGMENTS → (error : GroupError) → ¬ WouldPass lines line error
       within_limits_there key few Memory over = over
       within_limits_there key few Segments over = absurd (omega (arith, over.1, stands.files.count, few))
       within_limits_there key few Files over =
@@ -189,7 +189,7 @@ module _ (old new : Grouper) (group : List ℕ) (lines : List Over) (line : Over
 
   -- the article begins a file
   begun : (result : Result Added GroupError) → BeginsFile a (spelled (key_of a)) old.count old.files.entries new.files.entries result
-      → ((added : Added) → result ≡ Ok added → new.count ≡ count_behind old.count added) → ((error : GroupError) → result ≡ Err error → new.count ≡ old.count) → IsAnswer new group lines line result
+      → ((added : Added) → result ≡ Ok added → new.count ≡ count_behind old.count added) → ((error : GroupError) → result ≡ Err error → new.count ≡ old.count) → AddAnswers new group lines line result
   begun (Ok New) be counts stays =
       let adds = be.adds in
       let key : list_any (λ other. has_key (key_of other) a) (counted_in lines) ≡ false = sym (file_there old group (counted_in lines) a read stands.files) ∙ ap is_some be.absent in (
@@ -198,7 +198,7 @@ module _ (old new : Grouper) (group : List ℕ) (lines : List Over) (line : Over
         behind_line (begun_stands old new group (counted_in lines) a read stands.files same_group key adds.2 adds.0 adds.1 (counts New refl)),
       )
     where
-      within_limits : old.count < MOST_SEGMENTS → length old.files.entries < MOST_FILES → (error : GroupError) → ¬ IsOverLimit lines line error
+      within_limits : old.count < MOST_SEGMENTS → length old.files.entries < MOST_FILES → (error : GroupError) → ¬ WouldPass lines line error
       within_limits few few_files Memory over = over
       within_limits few few_files Segments over = absurd (omega (arith, over.1, stands.files.count, few))
       within_limits few few_files Files over = absurd (omega (arith, over.2, few_files, length_zip (IsEntryOf (counted_in lines)) (keys_of (counted_in lines)) old.files.entries stands.files.files))
@@ -219,7 +219,7 @@ module _ (old new : Grouper) (group : List ℕ) (lines : List Over) (line : Over
       )
 
   answered : (result : Result Added GroupError) → PutsArticle a (spelled (key_of a)) old.count old.files.entries new.files.entries result
-      → ((added : Added) → result ≡ Ok added → new.count ≡ count_behind old.count added) → ((error : GroupError) → result ≡ Err error → new.count ≡ old.count) → IsAnswer new group lines line result
+      → ((added : Added) → result ≡ Ok added → new.count ≡ count_behind old.count added) → ((error : GroupError) → result ≡ Err error → new.count ≡ old.count) → AddAnswers new group lines line result
   answered result (inl ch) counts stays = changed result ch counts stays
   answered result (inr be) counts stays = begun result be counts stays
 
@@ -233,19 +233,19 @@ pub counted_as : (line : Over) (count : Count) → count_of line.subject ≡ Som
 unfolding counted
 counted_as line count is = ap (option_map (λ count. record { over = line; count = count })) is
 
-pub nothing_added : (grouper : Grouper) (group : List ℕ) (lines : List Over) (line : Over) → counted line ≡ None → StandsFor grouper group lines → StandsFor grouper group (lines ++ line ∷ [])
+pub nothing_added : (grouper : Grouper) (group : List ℕ) (lines : List Over) (line : Over) → counted line ≡ None → HasGrouped grouper group lines → HasGrouped grouper group (lines ++ line ∷ [])
 nothing_added grouper group lines line is stands = record { files = subst (HasFilesOf grouper group) (sym (counted_same lines line is)) stands.files }
 
-module _ (old new : Grouper) (group : List ℕ) (lines : List Over) (line : Over) (a : Counted) (text : List ℕ) (is : counted line ≡ Some a) (read : IsRead a) (is_text : text ≡ spelled (key_of a))
-    (stands : StandsFor old group lines) (same_group : new.group ≡ old.group) where
+module _ (old new : Grouper) (group : List ℕ) (lines : List Over) (line : Over) (a : Counted) (text : List ℕ) (is : counted line ≡ Some a) (read : IsArticleRead a) (is_text : text ≡ spelled (key_of a))
+    (stands : HasGrouped old group lines) (same_group : new.group ≡ old.group) where
   puts_as : (put result : Result Added GroupError) → put ≡ result → PutsArticle a text old.count old.files.entries new.files.entries put → PutsArticle a (spelled (key_of a)) old.count old.files.entries new.files.entries result
   puts_as put result same puts =
       subst (λ t. PutsArticle a t old.count old.files.entries new.files.entries result) is_text (subst (λ r. PutsArticle a text old.count old.files.entries new.files.entries r) same puts)
 
-  pub answered_ok : (put : Result Added GroupError) (added : Added) → put ≡ Ok added → PutsArticle a text old.count old.files.entries new.files.entries put → new.count ≡ count_behind old.count added → IsAnswer new group lines line (Ok added)
+  pub answered_ok : (put : Result Added GroupError) (added : Added) → put ≡ Ok added → PutsArticle a text old.count old.files.entries new.files.entries put → new.count ≡ count_behind old.count added → AddAnswers new group lines line (Ok added)
   answered_ok put added same puts count =
       answered old new group lines line a is read stands same_group (Ok added) (puts_as put (Ok added) same puts) (λ other h. let e : added ≡ other = cc in count ∙ ap (count_behind old.count) e) (λ error h. cc)
 
-  pub answered_err : (put result : Result Added GroupError) → put ≡ result → IsErr result → PutsArticle a text old.count old.files.entries new.files.entries put → new.count ≡ old.count → IsAnswer new group lines line result
+  pub answered_err : (put result : Result Added GroupError) → put ≡ result → IsErr result → PutsArticle a text old.count old.files.entries new.files.entries put → new.count ≡ old.count → AddAnswers new group lines line result
   answered_err put result same refused puts count =
       answered old new group lines line a is read stands same_group result (puts_as put result same puts) (λ added h. absurd (true≢false (sym refused ∙ ap is_err h))) (λ error h. count)

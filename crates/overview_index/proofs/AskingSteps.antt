@@ -11,11 +11,11 @@ use Rattle.link_dialog.specs.declared.awaited.Awaited.TheVariants.{Over as TheOv
 use Rattle.link_dialog.specs.declared.dialog.Dialog.{Dialog}
 use Rattle.link_dialog.specs.Dialog.{Message, answers_of}
 use Rattle.link_dialog.specs.Replies.{Reply}
-use Rattle.link_dialog.specs.Talk.{Start, Rests, Ends, IsRefused, Talked, patience_of, line_reply, quit_message}
+use Rattle.link_dialog.specs.Talk.{Start, Rests, Ends, IsMessageRefused, Talked, patience_of, line_reply, quit_message}
 use Rattle.link_dialog.specs.TalkBlock.{IsBlockHeard}
 use Rattle.link_dialog.proofs.Sessions.{answers_more, no_answers}
-use Rattle.overview_index.specs.Asking.{IsAnswered, IsChosen}
-use Rattle.overview_index.specs.Session.{Query, Range, group_message, over_message, goes_on, GroupWasRefused, WasRefused, WasOver, WasOverBefore}
+use Rattle.overview_index.specs.Asking.{IsRangeAnswered, IsChosen}
+use Rattle.overview_index.specs.Session.{Query, Range, group_message, over_message, goes_on, GroupWasRefused, IndexWasRefused, IndexWasOver, WasOverBefore}
 
 -- ---- the replies behind those to the login
 
@@ -27,7 +27,7 @@ first_answer start now dialog replies reply r =
 
 -- it has no reply
 pub group_over : (q : Query) (start : Start) (then now : Option (List LinkEvent)) (dialog : Dialog) (replies : List Reply) (out : List ℕ) (reason : Why) → patience_of dialog ≡ q.patience → Rests start then dialog [] replies →
-    Ends start now (patience_of dialog) (group_message q.group ∷ []) out reason replies → WasOver q start now reason
+    Ends start now (patience_of dialog) (group_message q.group ∷ []) out reason replies → IndexWasOver q start now reason
 group_over q start then now dialog replies out reason patience r e =
     let before : WasOverBefore q start now reason = record {
       replies = replies;
@@ -41,7 +41,7 @@ group_over q start then now dialog replies out reason patience r e =
 
 -- it is refused
 pub group_refused : (q : Query) (start : Start) (then now : Option (List LinkEvent)) (dialog : Dialog) (replies : List Reply) (code : ℕ) (line : List ℕ) → patience_of dialog ≡ q.patience → Rests start then dialog [] replies → code ≢ 211 →
-    Talked start now (patience_of dialog) (group_message q.group ∷ quit_message ∷ []) (replies ++ line_reply code line ∷ []) → WasRefused q start now code
+    Talked start now (patience_of dialog) (group_message q.group ∷ quit_message ∷ []) (replies ++ line_reply code line ∷ []) → IndexWasRefused q start now code
 group_refused q start then now dialog replies code line patience r not t =
     let refused : GroupWasRefused q start now code = record {
       replies = replies ++ line_reply code line ∷ [];
@@ -80,7 +80,7 @@ group_chosen_at_end q start then now dialog replies group line out patience r is
 
 -- the next range may be asked, and the link goes on or not
 pub range_heard : (start : Start) (now : Option (List LinkEvent)) (dialog : Dialog) (messages : List Message) (range : Range) (replies : List Reply) (code : ℕ) (kept : Bool) (block : List ℕ) → ((code == 224) || (code == 423)) ≡ true →
-    IsBlockHeard start now dialog (messages ++ over_message range ∷ []) TheOver replies kept block (answer.Code code) → IsAnswered start now dialog messages range replies code kept block true
+    IsBlockHeard start now dialog (messages ++ over_message range ∷ []) TheOver replies kept block (answer.Code code) → IsRangeAnswered start now dialog messages range replies code kept block true
 range_heard start now dialog messages range replies code kept block goes h = record {
   reply = h.1.0;
   reply_is = h.1.1;
@@ -89,7 +89,7 @@ range_heard start now dialog messages range replies code kept block goes h = rec
 }
 
 pub range_heard_at_end : (start : Start) (now : Option (List LinkEvent)) (dialog : Dialog) (messages : List Message) (range : Range) (replies : List Reply) (code : ℕ) (kept : Bool) (block : List ℕ) → ((code == 224) || (code == 423)) ≡ true →
-    IsBlockHeard start now dialog (messages ++ over_message range ∷ []) TheOver replies kept block (answer.Unasked code) → IsAnswered start now dialog messages range replies code kept block false
+    IsBlockHeard start now dialog (messages ++ over_message range ∷ []) TheOver replies kept block (answer.Unasked code) → IsRangeAnswered start now dialog messages range replies code kept block false
 range_heard_at_end start now dialog messages range replies code kept block goes h = record {
   reply = h.1.0;
   reply_is = h.1.1;
@@ -99,5 +99,5 @@ range_heard_at_end start now dialog messages range replies code kept block goes 
 
 -- it is refused
 pub range_refused : (start : Start) (now : Option (List LinkEvent)) (patience : ℕ) (messages : List Message) (range : Range) (replies : List Reply) (reply : Reply) (code : ℕ) → reply.code ≡ code → ((code == 224) || (code == 423)) ≡ false →
-    Talked start now patience ((messages ++ over_message range ∷ []) ++ quit_message ∷ []) (replies ++ reply ∷ []) → (x : IsRefused start now patience messages (over_message range) replies code) × (goes_on x.reply ≡ false)
+    Talked start now patience ((messages ++ over_message range ∷ []) ++ quit_message ∷ []) (replies ++ reply ∷ []) → (x : IsMessageRefused start now patience messages (over_message range) replies code) × (goes_on x.reply ≡ false)
 range_refused start now patience messages range replies reply code is not t = (record { reply = reply; code_is = is; talked = t }, ap (λ n. (n == 224) || (n == 423)) is ∙ not)

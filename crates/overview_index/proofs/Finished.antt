@@ -16,7 +16,7 @@ use Rattle.nzb_index.specs.declared.index.Segment.{Segment}
 use Rattle.overview_lines.specs.OverLine.{Over}
 use Rattle.overview_index.specs.Draft.{IsDraftOf, entry_of}
 use Rattle.overview_index.specs.Group.{AreSegments, Counted, IsFileOf, IsIndexOfLines, Key, counted_in, has_key, keys_of, number_of, segment_of}
-use Rattle.overview_index.specs.Grouper.{IsEntryOf, StandsFor}
+use Rattle.overview_index.specs.Grouper.{IsEntryOf, HasGrouped}
 use Rattle.overview_index.specs.declared.draft.Draft.{Draft}
 use Rattle.overview_index.specs.declared.grouper.Grouper.{Grouper}
 use Rattle.overview_index.proofs.Drafts.{part_in}
@@ -110,7 +110,7 @@ files_are group articles (key ∷ keys) [] h = absurd h
 files_are group articles (key ∷ keys) (e ∷ es) h = (file_is group articles key e.1 h.0.draft, files_are group articles keys es h.1)
 
 pub index_is : (grouper : Grouper) (index : Index) → index.metas ≡ [] → index.files ≡ map (entry_of grouper.group) (values_of grouper.files.entries) → (group : List ℕ) (lines : List Over)
-    → StandsFor grouper group lines → IsIndexOfLines group lines index
+    → HasGrouped grouper group lines → IsIndexOfLines group lines index
 index_is grouper index metas files group lines stands = record {
   metas = metas;
   files =

@@ -13,11 +13,11 @@ use Rattle.nzb_index.specs.declared.index.Index.{Index}
 use Rattle.link_dialog.specs.declared.dialog.Dialog.{Dialog}
 use Rattle.link_dialog.specs.Dialog.{Message, answers_of}
 use Rattle.link_dialog.specs.Replies.{Reply}
-use Rattle.link_dialog.specs.Talk.{Start, IsOpen, IsRefused, Ends, Talked, patience_of, quit_message}
+use Rattle.link_dialog.specs.Talk.{Start, IsOpen, IsMessageRefused, Ends, Talked, patience_of, quit_message}
 use Rattle.link_dialog.proofs.Sessions.{answers_more, no_answers_at_end}
-use Rattle.overview_index.specs.Asking.{Tallies, Fills, StandsAt, IsAnswered, IsCut, KeepsLiveIf, error_of, Begins, IsChosen, UnderWay, HasHeardAll}
+use Rattle.overview_index.specs.Asking.{Tallies, WouldFill, StandsAt, IsRangeAnswered, IsRangeCut, KeepsLiveIf, error_of, HasBegun, IsChosen, IndexUnderWay, HasHeardAll}
 use Rattle.overview_index.specs.Group.{IsIndexOfLines}
-use Rattle.overview_index.specs.Session.{Query, Range, ranges_in, messages_of, over_message, goes_on, lines_in, overs_in, Overview, HasIndexed, OverWasRefused, WasRefused, WasFilled, WasOverBefore, WasOverWithin, WasOver, WasStopped, IndexEnds}
+use Rattle.overview_index.specs.Session.{Query, Range, ranges_in, messages_of, over_message, goes_on, lines_in, overs_in, Overview, HasIndexed, OverWasRefused, IndexWasRefused, WasFilled, WasOverBefore, WasOverWithin, IndexWasOver, WasStopped, IndexEnds}
 use Rattle.overview_index.specs.declared.adding.Desk.{Desk}
 use Rattle.overview_index.specs.declared.asking.Chosen.{Chosen}
 use Rattle.overview_index.specs.declared.added.GroupError.{GroupError}
@@ -26,11 +26,11 @@ use Rattle.overview_index.proofs.Ranges.{messages_more}
 
 -- ---- the opening
 
-pub opens : (q : Query) (start : Start) (now : Option (List LinkEvent)) (live : List Bool) (dialog : Dialog) → IsOpen start now live q.patience dialog → Begins q start now dialog
+pub opens : (q : Query) (start : Start) (now : Option (List LinkEvent)) (live : List Bool) (dialog : Dialog) → IsOpen start now live q.patience dialog → HasBegun q start now dialog
 opens q start now live dialog o = record { patience = o.0; replies = o.2.0; rests = o.2.1 }
 
 -- the link is over before the login is done
-pub opening_over : (q : Query) (start : Start) (now : Option (List LinkEvent)) (reason : Why) → (out : List ℕ) × (replies : List Reply) × Ends start now q.patience [] out reason replies → WasOver q start now reason
+pub opening_over : (q : Query) (start : Start) (now : Option (List LinkEvent)) (reason : Why) → (out : List ℕ) × (replies : List Reply) × Ends start now q.patience [] out reason replies → IndexWasOver q start now reason
 opening_over q start now reason (out, replies, e) =
     let before : WasOverBefore q start now reason = record {
       replies = replies;
@@ -44,7 +44,7 @@ opening_over q start now reason (out, replies, e) =
 
 -- ---- the newsgroup is chosen
 
-pub chosen_begins : (q : Query) (start : Start) (now : Option (List LinkEvent)) (dialog : Dialog) (chosen : Chosen) (desk : Desk) → Tallies desk q.group [] → IsChosen q start now dialog chosen → UnderWay q start now dialog chosen.group desk 0 chosen.live
+pub chosen_begins : (q : Query) (start : Start) (now : Option (List LinkEvent)) (dialog : Dialog) (chosen : Chosen) (desk : Desk) → Tallies desk q.group [] → IsChosen q start now dialog chosen → IndexUnderWay q start now dialog chosen.group desk 0 chosen.live
 chosen_begins q start now dialog chosen desk t x = record {
   patience = x.patience;
   replies = x.replies;
@@ -66,7 +66,7 @@ lines-append first second = flat_map-append (λ (reply : Reply). if reply.code =
 
 -- a range that is there, and its reply
 pub record IsNext (q : Query) (start : Start) (was : Option (List LinkEvent)) (dialog : Dialog) (group : GroupReply) (desk : Desk) (done : ℕ) (range : Range) : Type 0 where
-  pub under_way : UnderWay q start was dialog group desk done true
+  pub under_way : IndexUnderWay q start was dialog group desk done true
   pub there : slice_get (ranges_in q group) done ≡ Some range
 
 next_answers : (q : Query) (start : Start) (was : Option (List LinkEvent)) (dialog : Dialog) (group : GroupReply) (desk : Desk) (done : ℕ) (range : Range) (reply : Reply) → (n : IsNext q start was dialog group desk done range) →
@@ -96,8 +96,8 @@ next_messages q start was dialog group desk done range n =
 
 -- its lines were added
 pub range_done : (q : Query) (start : Start) (was now : Option (List LinkEvent)) (dialog : Dialog) (group : GroupReply) (desk after : Desk) (done : ℕ) (range : Range) (code : ℕ) (kept : Bool) (block : List ℕ) (live : Bool) →
-    (n : IsNext q start was dialog group desk done range) → (a : IsAnswered start now dialog (messages_of q.group (take done (ranges_in q group))) range n.under_way.replies code kept block live) →
-    Tallies after q.group (lines_in n.under_way.overs ++ lines_in (a.reply ∷ [])) → UnderWay q start now dialog group after (done + 1) live
+    (n : IsNext q start was dialog group desk done range) → (a : IsRangeAnswered start now dialog (messages_of q.group (take done (ranges_in q group))) range n.under_way.replies code kept block live) →
+    Tallies after q.group (lines_in n.under_way.overs ++ lines_in (a.reply ∷ [])) → IndexUnderWay q start now dialog group after (done + 1) live
 range_done q start was now dialog group desk after done range code kept block live n a t =
     let u = n.under_way in
     record {
@@ -133,7 +133,7 @@ range_stopped q start was quitted dialog group desk done range reply n goes t =
     }
 
 range_filled : (q : Query) (start : Start) (was quitted : Option (List LinkEvent)) (dialog : Dialog) (group : GroupReply) (desk : Desk) (done : ℕ) (range : Range) (reply : Reply) (reason : GroupError) → (n : IsNext q start was dialog group desk done range) → goes_on reply ≡ true →
-    Fills (lines_in n.under_way.overs) (lines_in (reply ∷ [])) reason →
+    WouldFill (lines_in n.under_way.overs) (lines_in (reply ∷ [])) reason →
     Talked start quitted (patience_of dialog) ((messages_of q.group (take done (ranges_in q group)) ++ over_message range ∷ []) ++ quit_message ∷ []) (n.under_way.replies ++ reply ∷ []) → WasFilled q start quitted reason
 range_filled q start was quitted dialog group desk done range reply reason n goes f t =
     let u = n.under_way in
@@ -154,7 +154,7 @@ range_filled q start was quitted dialog group desk done range reply reason n goe
 
 -- its lines weren't all added
 pub range_ends : (q : Query) (start : Start) (was quitted : Option (List LinkEvent)) (dialog : Dialog) (group : GroupReply) (desk : Desk) (done : ℕ) (range : Range) (reply : Reply) (reason : GroupError) → (n : IsNext q start was dialog group desk done range) → goes_on reply ≡ true →
-    (reason ≢ group_error.Memory → Fills (lines_in n.under_way.overs) (lines_in (reply ∷ [])) reason) →
+    (reason ≢ group_error.Memory → WouldFill (lines_in n.under_way.overs) (lines_in (reply ∷ [])) reason) →
     Talked start quitted (patience_of dialog) ((messages_of q.group (take done (ranges_in q group)) ++ over_message range ∷ []) ++ quit_message ∷ []) (n.under_way.replies ++ reply ∷ []) → IndexEnds q start quitted (Err (error_of reason))
 range_ends q start was quitted dialog group desk done range reply group_error.Memory n goes fills t =
     inr (range_stopped q start was quitted dialog group desk done range reply n goes t)
@@ -167,7 +167,7 @@ range_ends q start was quitted dialog group desk done range reply group_error.Fi
 
 -- OVER is refused
 pub range_refused : (q : Query) (start : Start) (was now : Option (List LinkEvent)) (dialog : Dialog) (group : GroupReply) (desk : Desk) (done : ℕ) (range : Range) (code : ℕ) → (n : IsNext q start was dialog group desk done range) →
-    (x : IsRefused start now (patience_of dialog) (messages_of q.group (take done (ranges_in q group))) (over_message range) n.under_way.replies code) × (goes_on x.reply ≡ false) → WasRefused q start now code
+    (x : IsMessageRefused start now (patience_of dialog) (messages_of q.group (take done (ranges_in q group))) (over_message range) n.under_way.replies code) × (goes_on x.reply ≡ false) → IndexWasRefused q start now code
 range_refused q start was now dialog group desk done range code n (x, not) =
     let u = n.under_way in
     let refused : OverWasRefused q start now code = record {
@@ -189,7 +189,7 @@ range_refused q start was now dialog group desk done range code n (x, not) =
 
 -- it has no reply
 pub range_cut : (q : Query) (start : Start) (was now : Option (List LinkEvent)) (dialog : Dialog) (group : GroupReply) (desk : Desk) (done : ℕ) (range : Range) (reason : Why) → (n : IsNext q start was dialog group desk done range) →
-    IsCut start now (patience_of dialog) (messages_of q.group (take done (ranges_in q group))) range n.under_way.replies reason → WasOver q start now reason
+    IsRangeCut start now (patience_of dialog) (messages_of q.group (take done (ranges_in q group))) range n.under_way.replies reason → IndexWasOver q start now reason
 range_cut q start was now dialog group desk done range reason n x =
     let u = n.under_way in
     let less : done < length (ranges_in q group) = slice_get_within (ranges_in q group) done range n.there in
@@ -208,7 +208,7 @@ range_cut q start was now dialog group desk done range reason n x =
     inr within
 
 -- the link was over behind the reply before it
-pub range_unasked : (q : Query) (start : Start) (now : Option (List LinkEvent)) (dialog : Dialog) (group : GroupReply) (desk : Desk) (done : ℕ) → UnderWay q start now dialog group desk done false → done < length (ranges_in q group) → WasOver q start now why.Unasked
+pub range_unasked : (q : Query) (start : Start) (now : Option (List LinkEvent)) (dialog : Dialog) (group : GroupReply) (desk : Desk) (done : ℕ) → IndexUnderWay q start now dialog group desk done false → done < length (ranges_in q group) → IndexWasOver q start now why.Unasked
 range_unasked q start now dialog group desk done u less =
     let within : WasOverWithin q start now why.Unasked = record {
       replies = u.replies;
@@ -225,7 +225,7 @@ range_unasked q start now dialog group desk done u less =
 
 -- ---- all ranges have their replies
 
-pub all_heard : (q : Query) (start : Start) (was now : Option (List LinkEvent)) (dialog : Dialog) (group : GroupReply) (desk : Desk) (done : ℕ) (live : Bool) → (u : UnderWay q start was dialog group desk done live) → length (ranges_in q group) ≤ done →
+pub all_heard : (q : Query) (start : Start) (was now : Option (List LinkEvent)) (dialog : Dialog) (group : GroupReply) (desk : Desk) (done : ℕ) (live : Bool) → (u : IndexUnderWay q start was dialog group desk done live) → length (ranges_in q group) ≤ done →
     Talked start now (patience_of dialog) (messages_of q.group (take done (ranges_in q group)) ++ quit_message ∷ []) u.replies → HasHeardAll q start now desk
 all_heard q start was now dialog group desk done live u all t =
     let talked = subst (λ (l : List Range). Talked start now (patience_of dialog) (messages_of q.group l ++ quit_message ∷ []) u.replies) (take_all done (ranges_in q group) all) t in

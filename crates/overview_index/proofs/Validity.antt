@@ -10,7 +10,7 @@ use Rattle.std.proofs.lemmas.List.{length-map, take_all}
 use Rattle.std.proofs.lemmas.List.Elements.{recursion_from_All}
 use Rattle.std.proofs.lemmas.List.Sums.{suffix_len_is, sum_by-cons}
 use Rattle.std.proofs.lemmas.Map.Entries.{length-values_of}
-use Rattle.nntp_lines.specs.GroupName.{IsGroupName, is_group_byte}
+use Rattle.nntp_lines.specs.GroupName.{IsGroupName}
 use Rattle.nntp_lines.specs.MessageId.{IsMessageId, is_id_byte}
 use Rattle.nzb_index.specs.Canonical.{IsValidFile, IsValidIndex}
 use Rattle.nzb_index.specs.Markup.{IsTextBytes, is_control, is_message_id, is_white, trimmed}
@@ -18,92 +18,40 @@ use Rattle.nzb_index.specs.Markup as nzb
 use Rattle.nzb_index.specs.declared.index.FileEntry.{FileEntry}
 use Rattle.nzb_index.specs.declared.index.Index.{Index}
 use Rattle.nzb_index.specs.declared.index.Segment.{Segment}
-use Rattle.overview_lines.specs.OverLine.{Over, is_plain}
+use Rattle.nzb_index.proofs.ValidTexts.{group_is_valid, id_is_valid, plain_text}
+use Rattle.overview_lines.specs.OverLine.{Over}
 use Rattle.overview_index.specs.Draft.{IsDraftOf, entry_of}
 use Rattle.overview_index.specs.Group.{Counted, Key, counted_in, has_key, keys_of, number_of, segment_of}
-use Rattle.overview_index.specs.Grouper.{IsEntryOf, IsRead, StandsFor, count_in}
+use Rattle.overview_index.specs.Grouper.{IsEntryOf, IsArticleRead, HasGrouped, count_in}
 use Rattle.overview_index.specs.declared.draft.Draft.{Draft}
 use Rattle.overview_index.specs.declared.grouper.Grouper.{Grouper}
 use Rattle.overview_index.proofs.Finished.{ComesFrom, find-holds, segments_come}
-
--- ---- texts
-
-wider : (narrow wide : ℕ → Bool) → ((byte : ℕ) → narrow byte ≡ true → wide byte ≡ true) → (text : List ℕ) → list_all narrow text ≡ true → list_all wide text ≡ true
-wider narrow wide implied [] all = refl
-wider narrow wide implied (byte ∷ text) all =
-    let parts = and_parts (narrow byte) (list_all narrow text) all in
-    and_from (wide byte) (list_all wide text) (implied byte parts.0) (wider narrow wide implied text parts.1)
-
-plain_byte : (byte : ℕ) → nat_le 32 byte ≡ true → is_control byte ≡ false
-plain_byte byte h = grind (arith, nat_tests)
-
-group_plain : (byte : ℕ) → is_group_byte byte ≡ true → nat_le 32 byte ≡ true
-group_plain byte h = grind (arith, nat_tests)
-
-group_not_white : (byte : ℕ) → is_group_byte byte ≡ true → is_white byte ≡ false
-group_not_white byte h = grind (arith, nat_tests)
-
-id_byte_in_nzb : (byte : ℕ) → is_id_byte byte ≡ true → nzb.is_id_byte byte ≡ true
-id_byte_in_nzb byte h = grind (arith, nat_tests)
-
-plain_text : (text : List ℕ) → is_plain text ≡ true → IsTextBytes text
-plain_text [] all = refl
-plain_text (byte ∷ text) all =
-    let parts = and_parts (nat_le 32 byte) (is_plain text) all in
-    rw (plain_byte byte parts.0, plain_text text parts.1) refl
-
-passed_at : (test : ℕ → Bool) (text : List ℕ) (i : ℕ) → i < length text → list_all test text ≡ true → test (get_or text i 0) ≡ true
-passed_at test [] i inside all = absurd (omega arith)
-passed_at test (byte ∷ text) zero inside all = (and_parts (test byte) (list_all test text) all).0
-passed_at test (byte ∷ text) (suc i) inside all = passed_at test text i (omega (arith, inside)) ((and_parts (test byte) (list_all test text) all).1)
-
--- nothing is cut from a text that begins and ends with no white
-no_white : (text : List ℕ) → list_all is_group_byte text ≡ true → trimmed text ≡ text
-no_white [] all = refl
-no_white (byte ∷ text) all =
-    let whole : List ℕ = byte ∷ text in
-    let first = group_not_white byte ((and_parts (is_group_byte byte) (list_all is_group_byte text) all).0) in
-    let front : prefix_len is_white whole ≡ 0 = rw first refl in
-    let inside : length whole - 1 < length whole = omega arith in
-    let last : suffix_len is_white whole ≡ 0 =
-    suffix_len_is is_white whole (length whole) 0 (omega arith) (λ k low high. absurd (omega arith)) (λ some. group_not_white (get_or whole (length whole - 1) 0) (passed_at is_group_byte whole (length whole - 1) inside all))
-    ∙ omega arith in
-    rw (front, last) (take_all (length whole - 0) whole (omega arith))
-
-group_is_valid : (name : List ℕ) → IsGroupName name → IsTextBytes name × (trimmed name ≡ name)
-group_is_valid name h = (plain_text name (wider is_group_byte (nat_le 32) group_plain name h.all), no_white name h.all)
-
-id_is_valid : (id : List ℕ) → IsMessageId id → is_message_id id ≡ true
-id_is_valid id h =
-    and_from (nat_le 1 (length id) && nat_le (length id) 248) (list_all nzb.is_id_byte id)
-    (and_from (nat_le 1 (length id)) (nat_le (length id) 248) (le-leb 1 (length id) h.some) (le-leb (length id) 248 h.short))
-    (wider is_id_byte nzb.is_id_byte id_byte_in_nzb id h.all)
 
 -- ---- segments
 
 abbrev IsValidSegment : Segment → Type 0
 IsValidSegment s = (1 ≤ s.number) × (s.number ≤ 4294967295) × (s.bytes ≤ 999999999999) × (is_message_id s.id ≡ true)
 
-read_segment : (a : Counted) → IsRead a → IsValidSegment (segment_of a)
+read_segment : (a : Counted) → IsArticleRead a → IsValidSegment (segment_of a)
 read_segment a read = (read.some, omega (arith, read.short), read.over.bytes, id_is_valid a.over.id read.over.id)
 
 all_filtered : (P : Counted → Type 0) (p : Counted → Bool) (xs : List Counted) → AllByRecursion P xs → AllByRecursion P (filter p xs)
 all_filtered P p [] h = h
 all_filtered P p (x ∷ xs) h = elim (p x) as (λ b. AllByRecursion P (cond b (x ∷ filter p xs) (filter p xs))) [ true ↦ (h.0, all_filtered P p xs h.1) | false ↦ all_filtered P p xs h.1 ]
 
-segments_valid : (articles : List Counted) (key : Key) (es : List (ℕ × Segment)) → AllByRecursion IsRead articles → AllByRecursion (ComesFrom articles key) es → AllByRecursion IsValidSegment (values_of es)
+segments_valid : (articles : List Counted) (key : Key) (es : List (ℕ × Segment)) → AllByRecursion IsArticleRead articles → AllByRecursion (ComesFrom articles key) es → AllByRecursion IsValidSegment (values_of es)
 segments_valid articles key [] read come = tt
 segments_valid articles key (e ∷ es) read come = (
   subst IsValidSegment (sym come.0.segment)
-      (read_segment come.0.article (find-holds IsRead (λ a. number_of a == e.0) (filter (has_key key) articles) come.0.article (all_filtered IsRead (has_key key) articles read) come.0.there)),
+      (read_segment come.0.article (find-holds IsArticleRead (λ a. number_of a == e.0) (filter (has_key key) articles) come.0.article (all_filtered IsArticleRead (has_key key) articles read) come.0.there)),
   segments_valid articles key es read come.1,
 )
 
 -- ---- files
 
-file_valid : (group : List ℕ) (articles : List Counted) (key : Key) (draft : Draft) → IsGroupName group → AllByRecursion IsRead articles → IsDraftOf articles key draft → IsValidFile (entry_of group draft)
+file_valid : (group : List ℕ) (articles : List Counted) (key : Key) (draft : Draft) → IsGroupName group → AllByRecursion IsArticleRead articles → IsDraftOf articles key draft → IsValidFile (entry_of group draft)
 file_valid group articles key draft name read is =
-    let first : IsRead is.first = find-holds IsRead (has_key key) articles is.first read is.is_first in
+    let first : IsArticleRead is.first = find-holds IsArticleRead (has_key key) articles is.first read is.is_first in
     record {
       poster = subst IsTextBytes (sym is.begun.poster) (plain_text is.first.over.from first.over.from.plain);
       subject = subst IsTextBytes (sym is.begun.subject) (plain_text is.first.over.subject first.over.subject.plain);
@@ -112,7 +60,7 @@ file_valid group articles key draft name read is =
       segments = segments_valid articles key draft.segments.entries read (segments_come articles key draft is);
     }
 
-files_valid : {Z : Type 0} (group : List ℕ) (articles : List Counted) (keys : List Key) (es : List (Vec ℕ Z × Draft)) → IsGroupName group → AllByRecursion IsRead articles → AllZip (IsEntryOf articles) keys es
+files_valid : {Z : Type 0} (group : List ℕ) (articles : List Counted) (keys : List Key) (es : List (Vec ℕ Z × Draft)) → IsGroupName group → AllByRecursion IsArticleRead articles → AllZip (IsEntryOf articles) keys es
     → AllByRecursion IsValidFile (map (entry_of group) (values_of es))
 files_valid group articles [] [] name read h = tt
 files_valid group articles [] (e ∷ es) name read h = absurd h
@@ -132,14 +80,14 @@ abbrev index_with : List FileEntry → Index
 index_with files = record { metas = []; files = files }
 
 pub index_valid : (grouper : Grouper) (index : Index) → IsGroupName grouper.group → index.metas ≡ [] → index.files ≡ map (entry_of grouper.group) (values_of grouper.files.entries) → (group : List ℕ) (lines : List Over)
-    → StandsFor grouper group lines → IsValidIndex index
+    → HasGrouped grouper group lines → IsValidIndex index
 index_valid grouper index name metas files group lines stands =
     let articles : List Counted = counted_in lines in
     let made : List FileEntry = map (entry_of grouper.group) (values_of grouper.files.entries) in
     let is : index ≡ index_with made = λ i. record { metas = metas i; files = files i } in
     let valid : IsValidIndex (index_with made) = record {
       metas = tt;
-      files = files_valid grouper.group articles (keys_of articles) grouper.files.entries name (recursion_from_All IsRead articles stands.files.read) stands.files.files;
+      files = files_valid grouper.group articles (keys_of articles) grouper.files.entries name (recursion_from_All IsArticleRead articles stands.files.read) stands.files.files;
       few_files = omega (arith, length-map (values_of grouper.files.entries) (entry_of grouper.group), length-values_of grouper.files.entries, stands.files.few_files);
       few_segments = omega (arith, counted_segments grouper.group (values_of grouper.files.entries), stands.files.in_files, stands.files.few_segments);
     } in

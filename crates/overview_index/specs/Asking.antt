@@ -10,10 +10,10 @@ use Rattle.link_dialog.specs.declared.dialog.Dialog.{Dialog}
 use Rattle.link_dialog.specs.BlockHearing.{HasReply}
 use Rattle.link_dialog.specs.Dialog.{Message, answers_of}
 use Rattle.link_dialog.specs.Replies.{Reply}
-use Rattle.link_dialog.specs.Talk.{Start, Rests, Ends, IsRefused, Talked, patience_of, line_reply, quit_message}
+use Rattle.link_dialog.specs.Talk.{Start, Rests, Ends, IsMessageRefused, Talked, patience_of, line_reply, quit_message}
 use Rattle.overview_lines.specs.OverLine.{Over}
-use Rattle.overview_index.specs.Group.{IsOverLimit}
-use Rattle.overview_index.specs.Grouper.{StandsFor}
+use Rattle.overview_index.specs.Group.{WouldPass}
+use Rattle.overview_index.specs.Grouper.{HasGrouped}
 use Rattle.overview_index.specs.Session.{Query, Range, ranges_in, group_message, over_message, messages_of, goes_on, lines_in, overs_in, skipped_in, Overview, FitAnIndex, IndexEnds}
 use Rattle.overview_index.specs.declared.adding.Desk.{Desk}
 use Rattle.overview_index.specs.declared.asking.Asked.{Asked}
@@ -28,22 +28,22 @@ use Rattle.overview_index.specs.declared.session.IndexError.TheVariants as error
 
 -- what stands on a desk: all of these lines were added
 pub record Tallies (desk : Desk) (group : List ℕ) (lines : List (List ℕ)) : Type 0 where
-  pub grouper : StandsFor desk.grouper group (overs_in lines)
+  pub grouper : HasGrouped desk.grouper group (overs_in lines)
   pub skipped : desk.skipped ≡ min 18446744073709551615 (skipped_in lines)
 
 -- one of these lines would pass a limit, behind those before them
-pub record Fills (before lines : List (List ℕ)) (reason : GroupError) : Type 0 where
+pub record WouldFill (before lines : List (List ℕ)) (reason : GroupError) : Type 0 where
   pub front : List Over
   pub line : Over
   pub behind : List Over
   pub lines_are : overs_in lines ≡ front ++ line ∷ behind
   pub fits : FitAnIndex (overs_in before ++ front)
-  pub over : IsOverLimit (overs_in before ++ front) line reason
+  pub over : WouldPass (overs_in before ++ front) line reason
 
 -- the lines were added behind those before them, or one would pass a limit, or memory was wanting
 abbrev pub AddsLines : Desk → List ℕ → (before lines : List (List ℕ)) → Result (Unit {0}) GroupError → Type 0
 AddsLines desk group before lines (Ok done) = Tallies desk group (before ++ lines)
-AddsLines desk group before lines (Err reason) = (reason ≢ group_error.Memory) → Fills before lines reason
+AddsLines desk group before lines (Err reason) = (reason ≢ group_error.Memory) → WouldFill before lines reason
 
 -- ---- one range asked
 
@@ -53,22 +53,22 @@ StandsAt start now dialog messages replies true = Rests start now dialog message
 StandsAt start now dialog messages replies false = (out : List ℕ) × Ends start now (patience_of dialog) messages out why.Unasked replies
 
 -- the range has a reply after which the next may be asked
-pub record IsAnswered (start : Start) (now : Option (List LinkEvent)) (dialog : Dialog) (messages : List Message) (range : Range) (replies : List Reply) (code : ℕ) (kept : Bool) (block : List ℕ) (live : Bool) : Type 0 where
+pub record IsRangeAnswered (start : Start) (now : Option (List LinkEvent)) (dialog : Dialog) (messages : List Message) (range : Range) (replies : List Reply) (code : ℕ) (kept : Bool) (block : List ℕ) (live : Bool) : Type 0 where
   pub reply : Reply
   pub reply_is : HasReply TheOver code kept block reply
   pub goes : goes_on reply ≡ true
   pub stands : StandsAt start now dialog (messages ++ over_message range ∷ []) (replies ++ reply ∷ []) live
 
 -- the link is over for this reason, and the range has no reply
-pub record IsCut (start : Start) (now : Option (List LinkEvent)) (patience : ℕ) (messages : List Message) (range : Range) (replies : List Reply) (reason : Why) : Type 0 where
+pub record IsRangeCut (start : Start) (now : Option (List LinkEvent)) (patience : ℕ) (messages : List Message) (range : Range) (replies : List Reply) (reason : Why) : Type 0 where
   pub out : List ℕ
   pub ends : Ends start now patience (messages ++ over_message range ∷ []) out reason replies
 
-abbrev pub IsAsked : Start → Option (List LinkEvent) → Dialog → List Message → Range → List Reply → List ℕ → Asked → Type 0
-IsAsked start now dialog messages range replies block (asked.Heard code kept live) = IsAnswered start now dialog messages range replies code kept block live
-IsAsked start now dialog messages range replies block (asked.Refused code) =
-    (x : IsRefused start now (patience_of dialog) messages (over_message range) replies code) × (goes_on x.reply ≡ false)
-IsAsked start now dialog messages range replies block (asked.Over reason) = IsCut start now (patience_of dialog) messages range replies reason
+abbrev pub IsRangeAsked : Start → Option (List LinkEvent) → Dialog → List Message → Range → List Reply → List ℕ → Asked → Type 0
+IsRangeAsked start now dialog messages range replies block (asked.Heard code kept live) = IsRangeAnswered start now dialog messages range replies code kept block live
+IsRangeAsked start now dialog messages range replies block (asked.Refused code) =
+    (x : IsMessageRefused start now (patience_of dialog) messages (over_message range) replies code) × (goes_on x.reply ≡ false)
+IsRangeAsked start now dialog messages range replies block (asked.Over reason) = IsRangeCut start now (patience_of dialog) messages range replies reason
 
 -- the link stays as it is where the reply was heard, and nothing behind it
 abbrev pub KeepsLiveIf : List Bool → List Bool → Bool → Type 0
@@ -93,7 +93,7 @@ error_of group_error.Memory = error.Memory
 error_of other = error.Full other
 
 -- the link is open, and nothing was said behind the login
-pub record Begins (q : Query) (start : Start) (now : Option (List LinkEvent)) (dialog : Dialog) : Type 0 where
+pub record HasBegun (q : Query) (start : Start) (now : Option (List LinkEvent)) (dialog : Dialog) : Type 0 where
   pub patience : patience_of dialog ≡ q.patience
   pub replies : List Reply
   pub rests : Rests start now dialog [] replies
@@ -112,7 +112,7 @@ ChooseEnds q start now dialog (Ok chosen) = IsChosen q start now dialog chosen
 ChooseEnds q start now dialog (Err reason) = IndexEnds q start now (Err reason)
 
 -- the first `done` ranges have their replies, and the lines of these were added
-pub record UnderWay (q : Query) (start : Start) (now : Option (List LinkEvent)) (dialog : Dialog) (group : GroupReply) (desk : Desk) (done : ℕ) (live : Bool) : Type 0 where
+pub record IndexUnderWay (q : Query) (start : Start) (now : Option (List LinkEvent)) (dialog : Dialog) (group : GroupReply) (desk : Desk) (done : ℕ) (live : Bool) : Type 0 where
   pub patience : patience_of dialog ≡ q.patience
   pub replies : List Reply
   pub overs : List Reply
@@ -123,7 +123,7 @@ pub record UnderWay (q : Query) (start : Start) (now : Option (List LinkEvent)) 
 
 -- a range has its reply, of which the lines were added, or the session ended with it
 abbrev pub RangeEnds : Query → Start → Option (List LinkEvent) → Dialog → GroupReply → Desk → ℕ → Result Bool IndexError → Type 0
-RangeEnds q start now dialog group desk done (Ok live) = UnderWay q start now dialog group desk done live
+RangeEnds q start now dialog group desk done (Ok live) = IndexUnderWay q start now dialog group desk done live
 RangeEnds q start now dialog group desk done (Err reason) = IndexEnds q start now (Err reason)
 
 -- all ranges have their replies, and QUIT was said

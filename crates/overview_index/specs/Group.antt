@@ -122,7 +122,7 @@ BeginsFile lines line = (a : Counted) × (counted line ≡ Some a) × IsFalse (l
 
 -- Behind these lines, this one brings a segment that the index cannot hold: 262,144 segments are there, or, where they are
 -- not, 9,999 files are there and it begins another.
-abbrev pub IsOverLimit : List Over → Over → GroupError → Type 0
-IsOverLimit lines line Memory = ⊥
-IsOverLimit lines line Segments = BringsSegment lines line × (MOST_SEGMENTS ≤ segments_in lines)
-IsOverLimit lines line Files = BeginsFile lines line × (segments_in lines < MOST_SEGMENTS) × (MOST_FILES ≤ files_in lines)
+abbrev pub WouldPass : List Over → Over → GroupError → Type 0
+WouldPass lines line Memory = ⊥
+WouldPass lines line Segments = BringsSegment lines line × (MOST_SEGMENTS ≤ segments_in lines)
+WouldPass lines line Files = BeginsFile lines line × (segments_in lines < MOST_SEGMENTS) × (MOST_FILES ≤ files_in lines)

@@ -5,9 +5,9 @@ use Rattle.std.specs.List.{AllZip}
 use Rattle.std.specs.Map.{lookup, set_value, values_of}
 use Rattle.nzb_index.specs.Canonical.{IsValidIndex}
 use Rattle.nzb_index.specs.declared.index.Index.{Index}
-use Rattle.overview_lines.specs.OverLine.{IsOver, Over, is_plain}
+use Rattle.overview_lines.specs.OverLine.{IsReadLine, Over, is_plain}
 use Rattle.overview_index.specs.Draft.{AddsArticle, IsBegunBy, IsDraftOf}
-use Rattle.overview_index.specs.Group.{BringsSegment, Counted, IsOverLimit, IsIndexOfLines, IsRepeat, Key, counted, counted_in, keys_of, number_of, parts_of, segment_of}
+use Rattle.overview_index.specs.Group.{BringsSegment, Counted, WouldPass, IsIndexOfLines, IsRepeat, Key, counted, counted_in, keys_of, number_of, parts_of, segment_of}
 use Rattle.overview_index.specs.declared.added.Added.{Added}
 use Rattle.overview_index.specs.declared.added.Added.TheVariants.{New, Repeat, NoCount}
 use Rattle.overview_index.specs.declared.added.GroupError.{GroupError}
@@ -33,8 +33,8 @@ pub record IsEntryOf {Z : Type 0} (articles : List Counted) (key : Key) (entry :
   pub draft : IsDraftOf articles key entry.1
 
 -- an article of a line that was read
-pub record IsRead (article : Counted) : Type 0 where
-  pub over : IsOver article.over
+pub record IsArticleRead (article : Counted) : Type 0 where
+  pub over : IsReadLine article.over
   pub some : 1 ≤ number_of article
   pub short : number_of article ≤ 9999999
 
@@ -45,7 +45,7 @@ count_in drafts = sum_by (λ (draft : Draft). btree_map_len draft.segments) draf
 -- the grouper has the files of these articles, of this newsgroup
 pub record HasFilesOf (grouper : Grouper) (group : List ℕ) (articles : List Counted) : Type 0 where
   pub group_is : grouper.group ≡ group
-  pub read : All IsRead articles
+  pub read : All IsArticleRead articles
   pub files : AllZip (IsEntryOf articles) (keys_of articles) grouper.files.entries
   pub count : grouper.count ≡ length (parts_of articles)
   pub in_files : grouper.count ≡ count_in (values_of grouper.files.entries)
@@ -53,7 +53,7 @@ pub record HasFilesOf (grouper : Grouper) (group : List ℕ) (articles : List Co
   pub few_files : length grouper.files.entries ≤ MOST_FILES
 
 -- the grouper has the files of these lines, of this newsgroup
-pub record StandsFor (grouper : Grouper) (group : List ℕ) (lines : List Over) : Type 0 where
+pub record HasGrouped (grouper : Grouper) (group : List ℕ) (lines : List Over) : Type 0 where
   pub files : HasFilesOf grouper group (counted_in lines)
 
 -- ---- one line more
@@ -99,24 +99,24 @@ count_behind count Repeat = count
 count_behind count NoCount = count
 
 -- what `add` answers of a line behind these, and what the grouper stands for then
-abbrev pub IsAnswer : Grouper → List ℕ → List Over → Over → Result Added GroupError → Type 0
-IsAnswer new group lines line (Ok New) = BringsSegment lines line × ((error : GroupError) → ¬ IsOverLimit lines line error) × StandsFor new group (lines ++ line ∷ [])
-IsAnswer new group lines line (Ok Repeat) = IsRepeat lines line × StandsFor new group (lines ++ line ∷ [])
-IsAnswer new group lines line (Ok NoCount) = (counted line ≡ None) × StandsFor new group (lines ++ line ∷ [])
-IsAnswer new group lines line (Err Memory) = StandsFor new group lines
-IsAnswer new group lines line (Err Segments) = IsOverLimit lines line Segments × StandsFor new group lines
-IsAnswer new group lines line (Err Files) = IsOverLimit lines line Files × StandsFor new group lines
+abbrev pub AddAnswers : Grouper → List ℕ → List Over → Over → Result Added GroupError → Type 0
+AddAnswers new group lines line (Ok New) = BringsSegment lines line × ((error : GroupError) → ¬ WouldPass lines line error) × HasGrouped new group (lines ++ line ∷ [])
+AddAnswers new group lines line (Ok Repeat) = IsRepeat lines line × HasGrouped new group (lines ++ line ∷ [])
+AddAnswers new group lines line (Ok NoCount) = (counted line ≡ None) × HasGrouped new group (lines ++ line ∷ [])
+AddAnswers new group lines line (Err Memory) = HasGrouped new group lines
+AddAnswers new group lines line (Err Segments) = WouldPass lines line Segments × HasGrouped new group lines
+AddAnswers new group lines line (Err Files) = WouldPass lines line Files × HasGrouped new group lines
 
 -- what `add` answers of a line, and what becomes of the grouper, whatever it stands for
 abbrev pub Answers : Grouper → Grouper → Over → Result Added GroupError → Type 0
-Answers old new line result = (group : List ℕ) (lines : List Over) → StandsFor old group lines → IsAnswer new group lines line result
+Answers old new line result = (group : List ℕ) (lines : List Over) → HasGrouped old group lines → AddAnswers new group lines line result
 
 -- ---- the index
 
 -- the index of the lines that the grouper stands for
-abbrev pub IsIndexOf : Grouper → Index → Type 0
-IsIndexOf grouper index = (group : List ℕ) (lines : List Over) → StandsFor grouper group lines → IsIndexOfLines group lines index
+abbrev pub IsIndexOfGrouper : Grouper → Index → Type 0
+IsIndexOfGrouper grouper index = (group : List ℕ) (lines : List Over) → HasGrouped grouper group lines → IsIndexOfLines group lines index
 
 -- it has a canonical text that is read again, if the grouper stands for any lines
 abbrev pub IsValidIndexOf : Grouper → Index → Type 0
-IsValidIndexOf grouper index = (group : List ℕ) (lines : List Over) → StandsFor grouper group lines → IsValidIndex index
+IsValidIndexOf grouper index = (group : List ℕ) (lines : List Over) → HasGrouped grouper group lines → IsValidIndex index

@@ -16,7 +16,7 @@ use Rattle.overview_lines.specs.Count.{count_of}
 use Rattle.overview_lines.specs.OverLine.{Over}
 use Rattle.overview_lines.specs.OverReading.{over_of}
 use Rattle.overview_lines.specs.declared.over.OverFault.{OverFault}
-use Rattle.overview_index.specs.Group.{IsIndexOfLines, IsOverLimit, files_in, segments_in}
+use Rattle.overview_index.specs.Group.{IsIndexOfLines, WouldPass, files_in, segments_in}
 use Rattle.overview_index.specs.declared.added.GroupError.{GroupError}
 use Rattle.overview_index.specs.declared.added.GroupError.TheVariants as group_error
 use Rattle.overview_index.specs.declared.session.Indexed.{Indexed}
@@ -135,8 +135,8 @@ pub record OverWasRefused (q : Query) (start : Start) (now : Option (List LinkEv
   pub more : length overs < length (ranges_in q group)
   pub talked : Talked start now q.patience (messages_of q.group (take (length overs + 1) (ranges_in q group)) ++ quit_message ∷ []) replies
 
-abbrev pub WasRefused : Query → Start → Option (List LinkEvent) → ℕ → Type 0
-WasRefused q start now code = GroupWasRefused q start now code ⊎ OverWasRefused q start now code
+abbrev pub IndexWasRefused : Query → Start → Option (List LinkEvent) → ℕ → Type 0
+IndexWasRefused q start now code = GroupWasRefused q start now code ⊎ OverWasRefused q start now code
 
 -- the lines pass no limit of an index
 abbrev pub FitAnIndex : List Over → Type 0
@@ -154,7 +154,7 @@ pub record WasFilled (q : Query) (start : Start) (now : Option (List LinkEvent))
   pub behind : List Over
   pub lines : overs_in (lines_in (last ∷ [])) ≡ front ++ line ∷ behind
   pub fits : FitAnIndex (overs_in (lines_in overs) ++ front)
-  pub over : IsOverLimit (overs_in (lines_in overs) ++ front) line reason
+  pub over : WouldPass (overs_in (lines_in overs) ++ front) line reason
   pub talked : Talked start now q.patience (messages_of q.group (take (length overs + 1) (ranges_in q group)) ++ quit_message ∷ []) replies
 
 -- the link was over for this reason, and GROUP has no reply
@@ -178,8 +178,8 @@ pub record WasOverWithin (q : Query) (start : Start) (now : Option (List LinkEve
   pub out : List ℕ
   pub ends : Ends start now q.patience (messages_of q.group (take asked (ranges_in q group))) out reason replies
 
-abbrev pub WasOver : Query → Start → Option (List LinkEvent) → Why → Type 0
-WasOver q start now reason = WasOverBefore q start now reason ⊎ WasOverWithin q start now reason
+abbrev pub IndexWasOver : Query → Start → Option (List LinkEvent) → Why → Type 0
+IndexWasOver q start now reason = WasOverBefore q start now reason ⊎ WasOverWithin q start now reason
 
 -- memory ran out behind a reply to OVER, and QUIT was said
 pub record WasStopped (q : Query) (start : Start) (now : Option (List LinkEvent)) : Type 0 where
@@ -194,8 +194,8 @@ abbrev pub IndexEnds : Query → Start → Option (List LinkEvent) → Result In
 IndexEnds q start now (Ok indexed) = HasIndexed q start now indexed
 IndexEnds q start now (Err error.Memory) = (now ≡ start.before) ⊎ WasStopped q start now
 IndexEnds q start now (Err error.NoLink) = now ≡ start.before
-IndexEnds q start now (Err (error.Refused code)) = WasRefused q start now code
-IndexEnds q start now (Err (error.Over reason)) = WasOver q start now reason
+IndexEnds q start now (Err (error.Refused code)) = IndexWasRefused q start now code
+IndexEnds q start now (Err (error.Over reason)) = IndexWasOver q start now reason
 IndexEnds q start now (Err (error.Full reason)) = (reason ≢ group_error.Memory) × WasFilled q start now reason
 
 -- a fact where no link was opened

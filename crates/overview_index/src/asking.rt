@@ -5,7 +5,7 @@ ghost use Rattle.link_dialog.specs.Dialog.{Message};
 ghost use Rattle.link_dialog.specs.Replies.{Reply};
 ghost use Rattle.link_dialog.specs.Talk.{Start, Rests, Talked, link_of_dialog, patience_of, quit_message};
 ghost use Rattle.overview_index.specs.Session.{Query};
-ghost use Rattle.overview_index.specs.Asking.{AskedKeepsLive, Begins, ChooseEnds, ComesOnLink, IsAsked, KeepsLiveIf, StandsAt};
+ghost use Rattle.overview_index.specs.Asking.{AskedKeepsLive, HasBegun, ChooseEnds, ComesOnLink, IsRangeAsked, KeepsLiveIf, StandsAt};
 
 use crate::IndexError;
 use io_traits::Links;
@@ -41,7 +41,7 @@ pub(crate) fn choose<L: Links>(
     ensures faults { L.faults links.old ≤ L.faults links.new }
     ensures live { IfOk result (λ chosen. KeepsLiveIf (L.live links.old) (L.live links.new) chosen.live) }
     ensures linked { IfErr result ComesOnLink }
-    ensures ends { (q : Query) (start : Start) → q.group ≡ group.now → Begins q start (L.trace links.old) dialog → ChooseEnds q start (L.trace links.new) dialog result }
+    ensures ends { (q : Query) (start : Start) → q.group ≡ group.now → HasBegun q start (L.trace links.old) dialog → ChooseEnds q start (L.trace links.new) dialog result }
 {
     let mut line = [0; 512];
     let len = write_command(Command::Group(group), &mut line);
@@ -78,7 +78,7 @@ pub(crate) fn ask<L: Links>(
     ensures live { AskedKeepsLive (L.live links.old) (L.live links.new) result }
     ensures asked { (start : Start) (messages : List Message) (replies : List Reply) →
         Rests start (L.trace links.old) dialog messages replies →
-        IsAsked start (L.trace links.new) dialog messages (record { first = first; last = last }) replies block.new result }
+        IsRangeAsked start (L.trace links.new) dialog messages (record { first = first; last = last }) replies block.new result }
 {
     let mut line = [0; 512];
     let len = write_command(Command::Over { first, last }, &mut line);

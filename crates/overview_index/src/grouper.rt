@@ -1,10 +1,10 @@
 // The files of a newsgroup's overview, taken together line by line.
 ghost use Rattle.std.specs.Prelude.{◌≡◌, ◌≤◌, ◌<◌, [], length, IfOk, OnOk};
 ghost use Rattle.std.specs.Map.{lookup};
-ghost use Rattle.overview_lines.specs.OverLine.{IsOver, over_in};
+ghost use Rattle.overview_lines.specs.OverLine.{IsReadLine, over_in};
 ghost use Rattle.overview_index.specs.Draft.{article_in};
 ghost use Rattle.overview_index.specs.Group.{key_of};
-ghost use Rattle.overview_index.specs.Grouper.{AddsFile, Answers, IsIndexOf, IsValidIndexOf, PutsArticle, StandsFor, count_behind, is_spelled, spelled};
+ghost use Rattle.overview_index.specs.Grouper.{AddsFile, Answers, IsIndexOfGrouper, IsValidIndexOf, PutsArticle, HasGrouped, count_behind, is_spelled, spelled};
 ghost use Rattle.limits.specs.declared.TheConstants.{MOST_SEGMENTS};
 
 use crate::draft::Draft;
@@ -33,7 +33,7 @@ pub struct Grouper {
 impl Grouper {
     /// No files yet, of this newsgroup. It takes no memory.
     pub fn new(alloc: Global, group: GroupName) -> Grouper
-        ensures { StandsFor result group [] }
+        ensures { HasGrouped result group [] }
     {
         Grouper {
             alloc,
@@ -46,7 +46,7 @@ impl Grouper {
 
     /// Adds a line behind those that were added. On an error nothing was added.
     pub fn add(&mut self, line: &OverLine<'_>) -> Result<Added, GroupError>
-        requires { IsOver (over_in line.now) }
+        requires { IsReadLine (over_in line.now) }
         ensures { Answers self.old self.new (over_in line.now) result }
     {
         let Some(count) = count_of(line.subject) else {
@@ -95,7 +95,7 @@ impl Grouper {
 
     /// The index of the lines that were added.
     pub fn finish(self) -> Result<Index, Memory>
-        ensures index { IfOk result (IsIndexOf self) }
+        ensures index { IfOk result (IsIndexOfGrouper self) }
         ensures valid { IfOk result (IsValidIndexOf self) }
     {
         let Grouper {

@@ -6,7 +6,7 @@ ghost use Rattle.nntp_lines.specs.declared.group.GroupReply.{GroupReply as Group
 ghost use Rattle.link_dialog.specs.Talk.{OpeningFailed, Start, link_of_dialog};
 ghost use Rattle.nzb_index.specs.Canonical.{IsValidIndex};
 ghost use Rattle.overview_index.specs.Session.{Query, IndexEnds, OnNoLink, ranges_in};
-ghost use Rattle.overview_index.specs.Asking.{error_of, ComesOnLink, KeepsLiveIf, RangeEnds, RangesEnd, UnderWay};
+ghost use Rattle.overview_index.specs.Asking.{error_of, ComesOnLink, KeepsLiveIf, RangeEnds, RangesEnd, IndexUnderWay};
 
 use crate::GroupError;
 use crate::adding::{Desk, add_overview};
@@ -113,7 +113,7 @@ fn index_ranges<L: Links>(
     ensures faults { L.faults links.old ≤ L.faults links.new }
     ensures linked { IfErr result ComesOnLink }
     ensures ends { (q : Query) (start : Start) → q.first ≡ first → q.last ≡ last →
-        UnderWay q start (L.trace links.old) dialog chosen.group desk.old 0 chosen.live → RangesEnd q start (L.trace links.new) desk.new result }
+        IndexUnderWay q start (L.trace links.old) dialog chosen.group desk.old 0 chosen.live → RangesEnd q start (L.trace links.new) desk.new result }
 {
     let least = first.max(chosen.group.low);
     let most = last.min(chosen.group.high);
@@ -163,7 +163,7 @@ fn index_range<L: Links>(
     ensures live { IfOk result (KeepsLiveIf (L.live links.old) (L.live links.new)) }
     ensures linked { IfErr result ComesOnLink }
     ensures ends { (q : Query) (start : Start) (group : GroupNumbers) (done : ℕ) → slice_get (ranges_in q group) done ≡ Some (record { first = from; last = to }) →
-        UnderWay q start (L.trace links.old) dialog group desk.old done true → RangeEnds q start (L.trace links.new) dialog group desk.new (done + 1) result }
+        IndexUnderWay q start (L.trace links.old) dialog group desk.old done true → RangeEnds q start (L.trace links.new) dialog group desk.new (done + 1) result }
 {
     match ask(dialog, links, from, to, buf, &mut desk.block) {
         Asked::Heard { code, kept, live } => match add_overview(alloc, code, kept, desk) {

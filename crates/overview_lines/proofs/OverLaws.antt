@@ -7,7 +7,7 @@ use Rattle.numbers.specs.Numbers.{decimal_of}
 use Rattle.overview_lines.specs.declared.over.OverFault.{OverFault}
 use Rattle.overview_lines.specs.declared.over.OverFault.TheVariants.{TooLong, TooFewFields, BadNumber, BadText}
 use Rattle.overview_lines.specs.declared.over.OverLine.{OverLine}
-use Rattle.overview_lines.specs.OverLine.{Fields, HasFields, HasOverFault, too_long, too_few_fields, bad_number, bad_subject, bad_from, bad_date, bad_id, bad_bytes, IsIdField, IsOver, IsOverLine, Over, bytes_of, is_plain, is_tab, number_of, over_in}
+use Rattle.overview_lines.specs.OverLine.{Fields, HasFields, HasOverFault, too_long, too_few_fields, bad_number, bad_subject, bad_from, bad_date, bad_id, bad_bytes, IsIdField, IsReadLine, IsOverLine, Over, bytes_of, is_plain, is_tab, number_of, over_in}
 use Rattle.overview_lines.specs.OverReading.{fields_of, id_of, over_of, over_said, with_bytes, with_fields, with_id, with_number}
 use Rattle.overview_lines.proofs.Digits.{within_parts}
 use Rattle.overview_lines.proofs.IdField.{found_is_read, id_is_read, read_is_id}
@@ -161,7 +161,7 @@ bytes_most [] n is = let zero_is : 0 ≡ n = some_number is in omega (arith, zer
 bytes_most (d ∷ ds) n is = (within_parts 0 999999999999 (decimal_of (d ∷ ds)) n is).2
 
 -- a line that says something keeps to the limits
-pub line_is_over : (line : List ℕ) (over : Over) → IsOverLine line over → IsOver over
+pub line_is_over : (line : List ℕ) (over : Over) → IsOverLine line over → IsReadLine over
 line_is_over line over h =
     let number = within_parts 1 9999999999999999 (decimal_of h.fields.number) over.number h.number in
     let short = fields_are_short line h.fields h.has in
@@ -192,7 +192,7 @@ pub read_is_line : (line : List ℕ) (result : Result OverLine OverFault) → Is
 read_is_line line (Ok over) is = subst (λ (r : Result Over OverFault). MatchResult r (IsOverLine line) (HasOverFault line)) is (over_or_fault line)
 read_is_line line (Err fault) is = tt
 
-pub read_is_over : (line : List ℕ) (result : Result OverLine OverFault) → IsRead line result → IfOk result (λ over. IsOver (over_in over))
+pub read_is_over : (line : List ℕ) (result : Result OverLine OverFault) → IsRead line result → IfOk result (λ over. IsReadLine (over_in over))
 read_is_over line (Ok over) is = line_is_over line (over_in over) (read_is_line line (Ok over) is)
 read_is_over line (Err fault) is = tt
 

@@ -105,7 +105,7 @@ pub record IsOverText (text : List ℕ) : Type 0 where
   pub short : length text ≤ 4096
 
 -- what any line that was read says
-pub record IsOver (over : Over) : Type 0 where
+pub record IsReadLine (over : Over) : Type 0 where
   pub number_least : 1 ≤ over.number
   pub number_most : over.number ≤ 9999999999999999
   pub subject : IsOverText over.subject

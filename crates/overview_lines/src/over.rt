@@ -1,7 +1,7 @@
 // A line of an overview.
 ghost use Rattle.std.specs.Prelude.{◌≡◌, ◌≢◌, ◌<◌, length, position, IfSome, [], ◌∷◌, ◌++◌, List, ℕ, MatchOption, MatchResult, Some, None, Ok, Err, IfOk, IfErr};
 ghost use Rattle.std.specs.List.{slice_split};
-ghost use Rattle.overview_lines.specs.OverLine.{HasOverFault, IsIdField, IsOver, IsOverLine, bytes_of, is_plain, is_tab, number_of, over_in};
+ghost use Rattle.overview_lines.specs.OverLine.{HasOverFault, IsIdField, IsReadLine, IsOverLine, bytes_of, is_plain, is_tab, number_of, over_in};
 ghost use Rattle.overview_lines.specs.OverReading.{fields_in, fields_of, id_of, over_of, over_said};
 
 use nntp_lines::MessageId;
@@ -66,7 +66,7 @@ struct LineFields<'a> {
 pub fn read_over(line: &[u8]) -> Result<OverLine<'_>, OverFault>
     ensures reading { MatchResult result (λ over. over_of line.now ≡ Ok (over_in over)) (λ fault. over_of line.now ≡ Err fault) }
     ensures line { IfOk result (λ over. IsOverLine line.now (over_in over)) }
-    ensures over { IfOk result (λ over. IsOver (over_in over)) }
+    ensures over { IfOk result (λ over. IsReadLine (over_in over)) }
     ensures fault { IfErr result (HasOverFault line.now) }
 {
     if line.len() > MOST {

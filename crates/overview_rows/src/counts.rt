@@ -1,5 +1,19 @@
 // Counts in subjects.
 use overview_lines::{Count, count_of};
+use std::process::Abort;
+
+// Asserts which count a subject has: where it starts and ends, and its numbers.
+fn counts<R: Abort>(rt: &R, rows: &[(&[u8], usize, usize, u32, u32)]) {
+    for (subject, start, end, part, total) in rows {
+        let wanted = Count {
+            start: *start,
+            end: *end,
+            part: *part,
+            total: *total,
+        };
+        assert!(rt; count_of(subject) == Some(wanted));
+    }
+}
 
 #[test]
 fn the_last_count_is_read(rt: HostRuntime) {
@@ -19,14 +33,13 @@ fn the_last_count_is_read(rt: HostRuntime) {
         (b"x(0000001/9999999)y", 1, 18, 1, 9_999_999),
         (b"(1/(2/3)/4)", 3, 8, 2, 3),
     ];
-    for (subject, start, end, part, total) in rows {
-        let wanted = Count {
-            start,
-            end,
-            part,
-            total,
-        };
-        assert_eq!(rt; count_of(subject), Some(wanted));
+    counts(&rt, &rows);
+}
+
+// Asserts that subjects have no count.
+fn have_none<R: Abort>(rt: &R, rows: &[&[u8]]) {
+    for subject in rows {
+        assert!(rt; count_of(subject).is_none());
     }
 }
 
@@ -54,7 +67,5 @@ fn other_subjects_have_none(rt: HostRuntime) {
         b"(1//2)",
         b"(-1/2)",
     ];
-    for subject in rows {
-        assert_eq!(rt; count_of(subject), None);
-    }
+    have_none(&rt, &rows);
 }

@@ -1,5 +1,13 @@
 // Dates. The seconds of those that Python's `email.utils` reads too were computed with it, the others by hand.
 use overview_lines::read_date;
+use std::process::Abort;
+
+// Asserts the seconds of dates.
+fn are_read<R: Abort>(rt: &R, rows: &[(&[u8], u64)]) {
+    for (text, seconds) in rows {
+        assert_eq!(rt; read_date(text), Some(*seconds));
+    }
+}
 
 #[test]
 fn dates_are_read(rt: HostRuntime) {
@@ -35,8 +43,13 @@ fn dates_are_read(rt: HostRuntime) {
         (b"Sat,  5   Oct  2024  07:08:09   -1130 junk", 1_728_153_489),
         (b"Sat,    5 Oct 2024 07:08:09 -1130   ", 1_728_153_489),
     ];
-    for (text, seconds) in rows {
-        assert_eq!(rt; read_date(text), Some(seconds));
+    are_read(&rt, &rows);
+}
+
+// Asserts that texts are no dates.
+fn are_none<R: Abort>(rt: &R, rows: &[&[u8]]) {
+    for text in rows {
+        assert_eq!(rt; read_date(text), None);
     }
 }
 
@@ -98,7 +111,5 @@ fn other_texts_are_none(rt: HostRuntime) {
         b"1 Jul 2003 10:52 +0260",
         b"1 Jul 2003 10:52 EST",
     ];
-    for text in rows {
-        assert_eq!(rt; read_date(text), None);
-    }
+    are_none(&rt, &rows);
 }

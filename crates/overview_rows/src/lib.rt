@@ -8,6 +8,8 @@ mod dates;
 #[cfg(test)]
 mod endings;
 #[cfg(test)]
+mod file_fixtures;
+#[cfg(test)]
 mod grouping;
 #[cfg(test)]
 mod grouping_fixtures;

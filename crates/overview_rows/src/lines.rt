@@ -1,66 +1,101 @@
 // Lines of an overview.
 use overview_lines::{OverFault, read_over};
-use std::test::Fail;
+use std::process::Abort;
+
+// What the fields of a line say.
+#[derive(Clone, Copy)]
+struct Said<'a> {
+    number: u64,
+    subject: &'a [u8],
+    from: &'a [u8],
+    date: &'a [u8],
+    id: &'a [u8],
+    bytes: u64,
+}
+
+// Asserts what the fields of a line say.
+fn says<R: Abort>(rt: &R, line: &[u8], said: Said<'_>) {
+    let over = read_over(line).expect(rt, "a line of an overview");
+    assert_eq!(rt; over.number, said.number);
+    assert!(rt; over.subject == said.subject);
+    assert!(rt; over.from == said.from);
+    assert!(rt; over.date == said.date);
+    assert!(rt; over.id.as_slice() == said.id);
+    assert_eq!(rt; over.bytes, said.bytes);
+}
+
+// The first article of RFC 3977, 8.3.3.
+const ARTICLE: &[u8] =
+    b"3000234\tI am just a test article\t\"Demo User\" <nobody@example.com>\t6 Oct 1998 04:38:40 -0500\t<45223423@example.com>\t<45454@example.net>\t1234\t17\tXref: news.example.com misc.test:3000363";
 
 #[test]
-fn a_line_says_what_its_fields_say(rt: HostRuntime) -> Result<(), Fail> {
-    let rows: [(&[u8], u64, &[u8], &[u8], &[u8], &[u8], u64); 5] = [
-        // the first article of RFC 3977, 8.3.3
-        (
-            b"3000234\tI am just a test article\t\"Demo User\" <nobody@example.com>\t6 Oct 1998 04:38:40 -0500\t<45223423@example.com>\t<45454@example.net>\t1234\t17\tXref: news.example.com misc.test:3000363",
-            3_000_234,
-            b"I am just a test article",
-            b"\"Demo User\" <nobody@example.com>",
-            b"6 Oct 1998 04:38:40 -0500",
-            b"45223423@example.com",
-            1234,
-        ),
-        // nothing where nothing is read, or may be missing
-        (b"1\t\t\t\t<a@b>\t\t\t", 1, b"", b"", b"", b"a@b", 0),
-        // bytes above 126, and control bytes in fields that aren't read
-        (
-            b"2\t\x7f\xff\xc3\xa4\ty\tz\t<a>\tr\x01\t0\tl\x02\tm\x03\t\t",
-            2,
-            b"\x7f\xff\xc3\xa4",
-            b"y",
-            b"z",
-            b"a",
-            0,
-        ),
-        // leading zeros, and the greatest numbers
-        (
-            b"0009999999999999999\ts\tf\td\t<<a@b>\tr\t000999999999999\tl",
-            9_999_999_999_999_999,
-            b"s",
-            b"f",
-            b"d",
-            b"<a@b",
-            999_999_999_999,
-        ),
-        (
-            b"7\ts\tf\td\t<a@b>\tr\t10\tl",
-            7,
-            b"s",
-            b"f",
-            b"d",
-            b"a@b",
-            10,
-        ),
-    ];
-    for (line, number, subject, from, date, id, bytes) in rows {
-        match read_over(line) {
-            Ok(over) => {
-                assert_eq!(rt; over.number, number);
-                assert_eq!(rt; over.subject, subject);
-                assert_eq!(rt; over.from, from);
-                assert_eq!(rt; over.date, date);
-                assert_eq!(rt; over.id.as_slice(), id);
-                assert_eq!(rt; over.bytes, bytes);
-            }
-            Err(_) => return Err("a line of an overview".into()),
-        }
-    }
-    Ok(())
+fn an_article_says_what_its_fields_say(rt: HostRuntime) {
+    let said = Said {
+        number: 3_000_234,
+        subject: b"I am just a test article",
+        from: b"\"Demo User\" <nobody@example.com>",
+        date: b"6 Oct 1998 04:38:40 -0500",
+        id: b"45223423@example.com",
+        bytes: 1234,
+    };
+    says(&rt, ARTICLE, said);
+}
+
+#[test]
+fn a_line_says_what_its_fields_say(rt: HostRuntime) {
+    let said = Said {
+        number: 7,
+        subject: b"s",
+        from: b"f",
+        date: b"d",
+        id: b"a@b",
+        bytes: 10,
+    };
+    says(&rt, b"7\ts\tf\td\t<a@b>\tr\t10\tl", said);
+}
+
+// Nothing where nothing is read, or may be missing.
+#[test]
+fn empty_fields_say_nothing(rt: HostRuntime) {
+    let said = Said {
+        number: 1,
+        subject: b"",
+        from: b"",
+        date: b"",
+        id: b"a@b",
+        bytes: 0,
+    };
+    says(&rt, b"1\t\t\t\t<a@b>\t\t\t", said);
+}
+
+// Bytes above 126, and control bytes in fields that aren't read.
+#[test]
+fn odd_bytes_stand_in_fields(rt: HostRuntime) {
+    let said = Said {
+        number: 2,
+        subject: b"\x7f\xff\xc3\xa4",
+        from: b"y",
+        date: b"z",
+        id: b"a",
+        bytes: 0,
+    };
+    let line = b"2\t\x7f\xff\xc3\xa4\ty\tz\t<a>\tr\x01\t0\tl\x02\tm\x03\t\t";
+    says(&rt, line, said);
+}
+
+// Leading zeros, and the greatest numbers.
+#[test]
+fn the_greatest_numbers_are_read(rt: HostRuntime) {
+    let said = Said {
+        number: 9_999_999_999_999_999,
+        subject: b"s",
+        from: b"f",
+        date: b"d",
+        id: b"<a@b",
+        bytes: 999_999_999_999,
+    };
+    let line = b"0009999999999999999\ts\tf\td\t<<a@b>\tr\t000999999999999\tl";
+    says(&rt, line, said);
 }
 
 // What is wrong with a line first, if something is.
@@ -68,6 +103,13 @@ fn fault_of(line: &[u8]) -> Option<OverFault> {
     match read_over(line) {
         Ok(_) => None,
         Err(fault) => Some(fault),
+    }
+}
+
+// Asserts the faults of lines.
+fn have_faults<R: Abort>(rt: &R, rows: &[(&[u8], OverFault)]) {
+    for (line, fault) in rows {
+        assert!(rt; fault_of(line) == Some(*fault));
     }
 }
 
@@ -104,9 +146,7 @@ fn a_line_has_one_fault(rt: HostRuntime) {
         ),
         (b"1\ts\tf\td\t<a@b>\tr\t \tl", OverFault::BadNumber(7)),
     ];
-    for (line, fault) in rows {
-        assert_eq!(rt; fault_of(line), Some(fault));
-    }
+    have_faults(&rt, &rows);
 }
 
 // Each line has every fault that stands below its own in the table too.
@@ -123,19 +163,22 @@ fn the_first_fault_is_told(rt: HostRuntime) {
         (b"1\ts\tf\td\ta@b\tr\tx\tl", OverFault::BadId),
         (b"1\ts\tf\td\t<a@b>\tr\tx\tl", OverFault::BadNumber(7)),
     ];
-    for (line, fault) in rows {
-        assert_eq!(rt; fault_of(line), Some(fault));
-    }
+    have_faults(&rt, &rows);
+}
+
+// Asserts the fault of a front of 4,096 bytes, and that one byte more is too long.
+fn may_be_so_long<R: Abort>(rt: &R, line: &[u8], fault: Option<OverFault>) {
+    assert_eq!(rt; line.len(), 4097);
+    let (front, _) = line.split_at(4096);
+    assert!(rt; fault_of(front) == fault);
+    assert!(rt; fault_of(line) == Some(OverFault::TooLong));
 }
 
 #[test]
 fn a_line_has_4096_bytes_at_most(rt: HostRuntime) {
-    // the last field of the longest line has what is left
     let mut line = [b'a'; 4097];
+    may_be_so_long(&rt, &line, Some(OverFault::TooFewFields));
+    // the last field of the longest line has what is left
     line[..22].copy_from_slice(b"1\ts\tf\td\t<a@b>\tr\t1\tl\tx\t");
-    assert_eq!(rt; fault_of(&line[..4096]), None);
-    assert_eq!(rt; fault_of(&line), Some(OverFault::TooLong));
-    let bare = [b'a'; 4097];
-    assert_eq!(rt; fault_of(&bare[..4096]), Some(OverFault::TooFewFields));
-    assert_eq!(rt; fault_of(&bare), Some(OverFault::TooLong));
+    may_be_so_long(&rt, &line, None);
 }

@@ -3,7 +3,7 @@ use Rattle.std.proofs.Common.{◌≡◌, ◌≢◌, ◌+◌, ◌<◌, ◌≤◌,
 use Rattle.std.specs.Prelude.{slice_get, slice_index, cond, nat_lt, ◌==◌}
 use Rattle.std.proofs.Math.ListN.{length-map, length-replicate}
 use Rattle.std.proofs.lemmas.Bool.Decides.{nat_tests}
-use Rattle.std.proofs.lemmas.Bool.{cases_lt}
+use Rattle.std.proofs.lemmas.Bool.{cases_lt, cases_eq}
 use Rattle.std.proofs.lemmas.Option.{slice_get_within}
 use Rattle.lists.specs.Edit.{edit_at}
 use Rattle.pipeline_core.specs.SegmentAt.{SegmentAt}
@@ -13,8 +13,8 @@ use Rattle.pipeline_core.specs.PipelineAt.{Pipeline}
 use Rattle.pipeline_core.specs.Searches.{is_arrived_at, is_answered_at, forgotten_at, without_link}
 use Rattle.pipeline_core.specs.declared.state.Outcome.{Outcome}
 use Rattle.pipeline_core.specs.Pipeline.{unanswered, with_arrival, with_links, with_outcome, server_on, server_of, after_reply, after_settling}
-use Rattle.pipeline_core.specs.Sound.{AreIdle, IsExclusive, IsLimited, IsSound}
-use Rattle.pipeline_core.proofs.OnePlace.{get-set_other, get-set_same, same_or_not}
+use Rattle.pipeline_core.specs.Sound.{AreIdle, IsExclusive, IsLimited, AreSoundLists}
+use Rattle.pipeline_core.proofs.OnePlace.{get-set_other, get-set_same}
 use Rattle.pipeline_core.proofs.Exclusive.{set-edit, times-append, times-set, no_holder, none_held, holder-kept, holder-new, holder-here, one_of_all}
 use Rattle.pipeline_core.proofs.Free.{IsNext}
 use Rattle.limits.specs.declared.TheConstants.{MOST_SEGMENTS}
@@ -25,7 +25,7 @@ limited-set links segments after levels depth i old new limited is server few sa
   few_links = rw length-set limited.few_links;
   few_segments = rw same limited.few_segments;
   small_depth = limited.small_depth;
-  each = λ k link read. elim (same_or_not k i) [
+  each = λ k link read. elim (cases_eq k i) [
     | inl e ↦ (let there : slice_get (set links i new) i ≡ Some link = ap (λ n. slice_get (set links i new) n) (sym e) ∙ read in
         let found : Some new ≡ Some link = sym (get-set_same links i new old is) ∙ there in
         let this : new ≡ link = cc in
@@ -38,7 +38,7 @@ limited-set links segments after levels depth i old new limited is server few sa
 
 -- what is outstanding on no link was answered by its server, and what is outstanding on the changed one wasn't
 unanswered-set : (links : List LinkAt) (segments after : List SegmentAt) (i : ℕ) (old new : LinkAt) → ((k s : ℕ) (link : LinkAt) → k ≢ i → slice_get links k ≡ Some link → 0 < times s link.asked → is_answered_at link.server (slice_get after s) ≡ false) → slice_get links i ≡ Some old → ((s : ℕ) → 0 < times s new.asked → is_answered_at new.server (slice_get after s) ≡ false) → (k s : ℕ) (link : LinkAt) → slice_get (set links i new) k ≡ Some link → 0 < times s link.asked → is_answered_at link.server (slice_get after s) ≡ false
-unanswered-set links segments after i old new others is own k s link read held = elim (same_or_not k i) [
+unanswered-set links segments after i old new others is own k s link read held = elim (cases_eq k i) [
   | inl e ↦ (let there : slice_get (set links i new) i ≡ Some link = ap (λ n. slice_get (set links i new) n) (sym e) ∙ read in
       let found : Some new ≡ Some link = sym (get-set_same links i new old is) ∙ there in
       let this : new ≡ link = cc in
@@ -48,7 +48,7 @@ unanswered-set links segments after i old new others is own k s link read held =
 
 -- a link that is over still holds nothing, and so does the changed one, where it is over
 idle-set : (links : List LinkAt) (i : ℕ) (old new : LinkAt) → AreIdle links → slice_get links i ≡ Some old → (new.over ≡ true → new.asked ≡ []) → AreIdle (set links i new)
-idle-set links i old new idle is own k link read over = elim (same_or_not k i) [
+idle-set links i old new idle is own k link read over = elim (cases_eq k i) [
   | inl e ↦ (let there : slice_get (set links i new) i ≡ Some link = ap (λ n. slice_get (set links i new) n) (sym e) ∙ read in
       let found : Some new ≡ Some link = sym (get-set_same links i new old is) ∙ there in
       let this : new ≡ link = cc in
@@ -57,7 +57,7 @@ idle-set links i old new idle is own k link read over = elim (same_or_not k i) [
 ]
 
 -- a link changes, and what is outstanding on it doesn't
-pub sound-same : (links : List LinkAt) (segments : List SegmentAt) (holders : List (Option ℕ)) (levels : List ℕ) (depth i : ℕ) (old new : LinkAt) → IsSound links segments holders levels depth → slice_get links i ≡ Some old → new.server ≡ old.server → new.asked ≡ old.asked → new.over ≡ old.over → IsSound (set links i new) segments holders levels depth
+pub sound-same : (links : List LinkAt) (segments : List SegmentAt) (holders : List (Option ℕ)) (levels : List ℕ) (depth i : ℕ) (old new : LinkAt) → AreSoundLists links segments holders levels depth → slice_get links i ≡ Some old → new.server ≡ old.server → new.asked ≡ old.asked → new.over ≡ old.over → AreSoundLists (set links i new) segments holders levels depth
 sound-same links segments holders levels depth i old new sound is server asked end =
     let stays : (s : ℕ) → times_asked (set links i new) s ≡ times_asked links s = λ s.
     (let sums : times_asked (set links i new) s + times s old.asked ≡ times_asked links s + times s new.asked = times-set links i s old new is in
@@ -86,7 +86,7 @@ pub no_time : (s k : ℕ) → k ≢ s → times k (s ∷ []) ≡ 0
 no_time s k other = let test : (s == k) ≡ false = grind (arith, nat_tests) in rw test refl
 
 -- a link asks for its next segment
-pub sound-next : (p : Pipeline) (holders : List (Option ℕ)) (i k : ℕ) (old : LinkAt) → IsSound p.links p.segments holders p.levels p.depth → slice_get p.links i ≡ Some old → IsNext p old k → IsSound (set p.links i (with_asked k old)) p.segments (set holders k (Some i)) p.levels p.depth
+pub sound-next : (p : Pipeline) (holders : List (Option ℕ)) (i k : ℕ) (old : LinkAt) → AreSoundLists p.links p.segments holders p.levels p.depth → slice_get p.links i ≡ Some old → IsNext p old k → AreSoundLists (set p.links i (with_asked k old)) p.segments (set holders k (Some i)) p.levels p.depth
 sound-next p holders i k old sound is next =
     let new : LinkAt = with_asked k old in
     let free : times_asked p.links k ≡ 0 = none_held 0 p.links k next.unheld in
@@ -96,18 +96,18 @@ sound-next p holders i k old sound is next =
     let there : (s : ℕ) → s ≢ k → times_asked (set p.links i new) s ≡ times_asked p.links s = λ s other. omega (arith, sums s, more s, no_time k s other) in
     record {
       exclusive = record {
-        once = λ s. elim (same_or_not s k) [
+        once = λ s. elim (cases_eq s k) [
           | inl e ↦ (let at : times_asked (set p.links i new) s ≡ 1 = ap (times_asked (set p.links i new)) e ∙ here in omega arith)
           | inr other ↦ rw (there s other) (sound.exclusive.once s)
         ];
-        none_arrived = λ s arrived. elim (same_or_not s k) [
+        none_arrived = λ s arrived. elim (cases_eq s k) [
           | inl e ↦ (let no : true ≡ false = sym arrived ∙ ap (λ n. is_arrived_at (slice_get p.segments n)) e ∙ next.not_arrived in cc)
           | inr other ↦ there s other ∙ sound.exclusive.none_arrived s arrived
         ];
         within = λ s past. there s (λ e. absurd (omega (arith, e, next.below))) ∙ sound.exclusive.within s past;
       };
       unanswered = unanswered-set p.links p.segments p.segments i old new (λ j s link other. sound.unanswered j s link) is
-          (λ s held. elim (same_or_not s k) [
+          (λ s held. elim (cases_eq s k) [
             | inl e ↦ ap (λ n. is_answered_at old.server (slice_get p.segments n)) e ∙ next.not_answered
             | inr other ↦ sound.unanswered i s old is (omega (arith, more s, no_time k s other, held))
           ]);
@@ -115,7 +115,7 @@ sound-next p holders i k old sound is next =
       limited = limited-set p.links p.segments p.segments p.levels p.depth i old new sound.limited is refl (rw length-append (omega (arith, next.room))) refl;
       held = record {
         same = length-set holders k (Some i) ∙ sound.held.same;
-        each = λ s below. elim (same_or_not s k) [
+        each = λ s below. elim (cases_eq s k) [
           | inl e ↦ (let read : slice_get holders k ≡ Some (holder p.links k) = sound.held.each k next.below in
               ap (λ n. slice_get (set holders k (Some i)) n) e ∙ get-set_same holders k (Some i) (holder p.links k) read
               ∙ ap (λ t. Some t) (sym (holder-new 0 p.links i k old new is free (omega (arith, more k, one_time k)) ∙ ap (λ n. Some n) (zero-add i)) ∙ ap (λ n. holder (set p.links i new) n) (sym e)))
@@ -133,7 +133,7 @@ arrived-set : (segments : List SegmentAt) (k s : ℕ) (old new : SegmentAt) → 
 arrived-set segments k s old new is other = ap is_arrived_at (get-set_other segments k s new other)
 
 -- the oldest segment of a link is answered
-pub sound-reply : (links : List LinkAt) (segments : List SegmentAt) (holders : List (Option ℕ)) (levels : List ℕ) (depth i k : ℕ) (old : LinkAt) (was now : SegmentAt) → IsSound links segments holders levels depth → slice_get links i ≡ Some old → slice_get old.asked 0 ≡ Some k → slice_get segments k ≡ Some was → IsSound (set links i (without_oldest old)) (set segments k now) (set holders k None) levels depth
+pub sound-reply : (links : List LinkAt) (segments : List SegmentAt) (holders : List (Option ℕ)) (levels : List ℕ) (depth i k : ℕ) (old : LinkAt) (was now : SegmentAt) → AreSoundLists links segments holders levels depth → slice_get links i ≡ Some old → slice_get old.asked 0 ≡ Some k → slice_get segments k ≡ Some was → AreSoundLists (set links i (without_oldest old)) (set segments k now) (set holders k None) levels depth
 sound-reply links segments holders levels depth i k old was now sound is first there =
     let new : LinkAt = without_oldest old in
     let parts : old.asked ≡ k ∷ drop 1 old.asked = first_place old.asked k first in
@@ -146,17 +146,17 @@ sound-reply links segments holders levels depth i k old was now sound is first t
     let shorter : length old.asked ≡ length (k ∷ []) + length new.asked = ap (λ (t : List ℕ). length t) parts ∙ length-append (k ∷ []) (drop 1 old.asked) in
     record {
       exclusive = record {
-        once = λ s. elim (same_or_not s k) [
+        once = λ s. elim (cases_eq s k) [
           | inl e ↦ (let at : times_asked (set links i new) s ≡ 0 = ap (times_asked (set links i new)) e ∙ here in omega arith)
           | inr other ↦ rw (elsewhere s other) (sound.exclusive.once s)
         ];
-        none_arrived = λ s arrived. elim (same_or_not s k) [
+        none_arrived = λ s arrived. elim (cases_eq s k) [
           | inl e ↦ ap (times_asked (set links i new)) e ∙ here
           | inr other ↦ elsewhere s other ∙ sound.exclusive.none_arrived s (sym (arrived-set segments k s was now there other) ∙ arrived)
         ];
         within = λ s past. let far : length segments ≤ s = rw (← length-set segments k now) past in elsewhere s (λ e. absurd (omega (arith, e))) ∙ sound.exclusive.within s far;
       };
-      unanswered = λ j s link read held. elim (same_or_not s k) [
+      unanswered = λ j s link read held. elim (cases_eq s k) [
         | inl e ↦ absurd (let most = one_of_all (set links i new) j s link read in let none : times_asked (set links i new) s ≡ 0 = ap (times_asked (set links i new)) e ∙ here in omega (arith, most, none, held))
         | inr other ↦ ap (is_answered_at link.server) (get-set_other segments k s now other) ∙ unanswered-set links segments segments i old new (λ j s link differ. sound.unanswered j s link) is (λ s held. sound.unanswered i s old is (omega (arith, less s, held))) j s link read held
       ];
@@ -164,7 +164,7 @@ sound-reply links segments holders levels depth i k old was now sound is first t
       limited = limited-set links segments (set segments k now) levels depth i old new sound.limited is refl (omega (arith, fits.1)) (length-set segments k now);
       held = record {
         same = length-set holders k None ∙ sound.held.same ∙ sym (length-set segments k now);
-        each = λ s below. let under : s < length segments = rw (← length-set segments k now) below in elim (same_or_not s k) [
+        each = λ s below. let under : s < length segments = rw (← length-set segments k now) below in elim (cases_eq s k) [
           | inl e ↦ (let read : slice_get holders k ≡ Some (holder links k) = sound.held.each k below_k in
               ap (λ n. slice_get (set holders k None) n) e ∙ get-set_same holders k None (holder links k) read
               ∙ ap (λ t. Some t) (sym (no_holder 0 (set links i new) k here) ∙ ap (λ n. holder (set links i new) n) (sym e)))
@@ -206,7 +206,7 @@ held_at n (link ∷ links) (suc i) s old is held = elim (cases_lt 0 (times s lin
 ]
 
 -- a link is lost
-pub sound-over : (links : List LinkAt) (segments : List SegmentAt) (holders after : List (Option ℕ)) (levels : List ℕ) (depth i : ℕ) (old : LinkAt) → IsSound links segments holders levels depth → slice_get links i ≡ Some old → length after ≡ length holders → ((k : ℕ) → slice_get after k ≡ forgotten_at i (slice_get holders k)) → IsSound (set links i (with_end old)) segments after levels depth
+pub sound-over : (links : List LinkAt) (segments : List SegmentAt) (holders after : List (Option ℕ)) (levels : List ℕ) (depth i : ℕ) (old : LinkAt) → AreSoundLists links segments holders levels depth → slice_get links i ≡ Some old → length after ≡ length holders → ((k : ℕ) → slice_get after k ≡ forgotten_at i (slice_get holders k)) → AreSoundLists (set links i (with_end old)) segments after levels depth
 sound-over links segments holders after levels depth i old sound is same each =
     let new : LinkAt = with_end old in
     let sums : (s : ℕ) → times_asked (set links i new) s + times s old.asked ≡ times_asked links s = λ s. omega (arith, times-set links i s old new is) in
@@ -231,20 +231,20 @@ sound-over links segments holders after levels depth i old sound is same each =
     }
 
 -- a segment that no link holds has arrived
-pub sound-settling : (links : List LinkAt) (segments : List SegmentAt) (holders : List (Option ℕ)) (levels : List ℕ) (depth k : ℕ) (was : SegmentAt) → IsSound links segments holders levels depth → slice_get segments k ≡ Some was → holder links k ≡ None → IsSound links (set segments k (with_arrival was)) holders levels depth
+pub sound-settling : (links : List LinkAt) (segments : List SegmentAt) (holders : List (Option ℕ)) (levels : List ℕ) (depth k : ℕ) (was : SegmentAt) → AreSoundLists links segments holders levels depth → slice_get segments k ≡ Some was → holder links k ≡ None → AreSoundLists links (set segments k (with_arrival was)) holders levels depth
 sound-settling links segments holders levels depth k was sound there unheld =
     let now : SegmentAt = with_arrival was in
     let free : times_asked links k ≡ 0 = none_held 0 links k unheld in
     record {
       exclusive = record {
         once = sound.exclusive.once;
-        none_arrived = λ s arrived. elim (same_or_not s k) [
+        none_arrived = λ s arrived. elim (cases_eq s k) [
           | inl e ↦ ap (times_asked links) e ∙ free
           | inr other ↦ sound.exclusive.none_arrived s (sym (arrived-set segments k s was now there other) ∙ arrived)
         ];
         within = λ s past. sound.exclusive.within s (rw (← length-set segments k now) past);
       };
-      unanswered = λ j s link read held. elim (same_or_not s k) [
+      unanswered = λ j s link read held. elim (cases_eq s k) [
         | inl e ↦ absurd (let most = one_of_all links j s link read in let none : times_asked links s ≡ 0 = ap (times_asked links) e ∙ free in omega (arith, most, none, held))
         | inr other ↦ ap (is_answered_at link.server) (get-set_other segments k s now other) ∙ sound.unanswered j s link read held
       ];
@@ -291,7 +291,7 @@ fresh_idle [] k link is = cc
 fresh_idle (server ∷ rest) zero link is = let same : fresh_link server ≡ link = cc in ap (λ (l : LinkAt). l.asked) (sym same)
 fresh_idle (server ∷ rest) (suc k) link is = fresh_idle rest k link is
 
-pub sound-start : (server_of_link levels : List ℕ) (n depth : ℕ) → length levels ≤ 16 → length server_of_link ≤ 64 → n ≤ MOST_SEGMENTS → depth ≤ 32 → ((j : ℕ) → j < length server_of_link → slice_index server_of_link j < length levels) → IsSound (map fresh_link server_of_link) (replicate n unanswered) (replicate n None) levels depth
+pub sound-start : (server_of_link levels : List ℕ) (n depth : ℕ) → length levels ≤ 16 → length server_of_link ≤ 64 → n ≤ MOST_SEGMENTS → depth ≤ 32 → ((j : ℕ) → j < length server_of_link → slice_index server_of_link j < length levels) → AreSoundLists (map fresh_link server_of_link) (replicate n unanswered) (replicate n None) levels depth
 sound-start server_of_link levels n depth few_servers few_links few small each = record {
   exclusive = record {
     once = λ s. rw (no_times server_of_link s) (omega arith);

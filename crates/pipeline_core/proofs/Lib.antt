@@ -7,3 +7,4 @@ pub mod Full
 pub mod Alike
 pub mod Placed
 pub mod Awaited
+mod CallReads

@@ -3,7 +3,7 @@ use Rattle.std.proofs.Common.{◌≡◌, ◌≢◌, ◌+◌, ◌-◌, ◌<◌, �
 use Rattle.std.specs.Prelude.{slice_get, slice_index_or, nat_eq}
 use Rattle.std.proofs.Math.ListN.{length-replicate}
 use Rattle.std.proofs.lemmas.Bool.Decides.{nat_tests}
-use Rattle.std.proofs.lemmas.Bool.{cases_lt}
+use Rattle.std.proofs.lemmas.Bool.{cases_lt, cases_eq}
 use Rattle.std.proofs.lemmas.Option.{slice_get-get_or, slice_get_within}
 use Rattle.lists.specs.Edit.{edit_at}
 use Rattle.pipeline_core.specs.SegmentAt.{SegmentAt}
@@ -16,8 +16,8 @@ use Rattle.pipeline_core.specs.declared.state.Outcome.TheVariants.{Arrived as Ha
 use Rattle.pipeline_core.specs.declared.state.SegmentState.{SegmentState}
 use Rattle.pipeline_core.specs.declared.state.SegmentState.TheVariants.{Open, Outstanding, Arrived, Exhausted}
 use Rattle.pipeline_core.specs.Pipeline.{is_spent, state_by, is_open, is_decided, can_be_asked, segment_state, after_greeting, after_next, after_over, after_reply, server_on, server_of, unanswered, with_arrival, with_outcome, after_settling, start, is_finished}
-use Rattle.pipeline_core.specs.Sound.{IsExclusive, IsPlaced, IsUntouched, HasFallen}
-use Rattle.pipeline_core.proofs.OnePlace.{get-set_other, get-set_same, same_or_not}
+use Rattle.pipeline_core.specs.Sound.{IsExclusive, IsPlaced, IsUnaskedOrArrived, HasFallen}
+use Rattle.pipeline_core.proofs.OnePlace.{get-set_other, get-set_same}
 use Rattle.pipeline_core.proofs.Searching.{all_of, not_all, first_least, first_none_at, first_found, first_window}
 use Rattle.pipeline_core.proofs.Exclusive.{times-append, one_of_all, holder-new, holder-here, none_held, no_holder, set-edit}
 use Rattle.pipeline_core.proofs.Calls.{one_time, no_times, first_place, get-replicate}
@@ -26,7 +26,7 @@ use Rattle.pipeline_core.proofs.Full.{can_stays, get-edit_other}
 use Rattle.pipeline_core.proofs.Alike.{left-kept, spent-more, state-same, can-same, holder-edit, times-other, times-rest, none-after}
 
 -- a segment that was never asked for and hasn't arrived is one of which nothing is known
-untouched_open : (o : Option SegmentAt) → IsUntouched o → is_arrived_at o ≡ false → o ≡ Some unanswered
+untouched_open : (o : Option SegmentAt) → IsUnaskedOrArrived o → is_arrived_at o ≡ false → o ≡ Some unanswered
 untouched_open o (inl known) waited = known
 untouched_open o (inr arrived) waited = let no_way : true ≡ false = sym arrived ∙ waited in cc
 
@@ -75,10 +75,10 @@ placed-next p i k old lows fresh after decided is next found small kept past wai
     record {
       as_many = length-set lows old.server (k + 1) ∙ placed.as_many;
       marks = placed.marks;
-      closed = λ v low s read below. elim (same_or_not v old.server) [
+      closed = λ v low s read below. elim (cases_eq v old.server) [
         | inl e ↦ (let here : slice_get (set lows old.server (k + 1)) old.server ≡ Some low = ap (λ n. slice_get (set lows old.server (k + 1)) n) (sym e) ∙ read in
             let low_is : low ≡ k + 1 = new_low lows old.server (k + 1) low (omega (arith, placed.as_many)) here in
-            elim (same_or_not s k) [
+            elim (cases_eq s k) [
               | inl this ↦ ap (λ n. can_be_asked (after_next p i (Some k)) v n) this ∙ sym (held_cannot (after_next p i (Some k)) v k i now)
               | inr other ↦ can_stays p i k v s (ap (λ n. can_be_asked p n s) e ∙ first_least (can_be_asked p old.server) 0 (length p.segments) k s found (omega arith) (omega (arith, other)))
             ])
@@ -86,7 +86,7 @@ placed-next p i k old lows fresh after decided is next found small kept past wai
       ];
       unasked = λ s from below. (held s (λ e. absurd (omega (arith, e))) ∙ (placed.unasked s (omega arith) below).0, (placed.unasked s (omega arith) below).1);
       first_unasked = λ below. untouched_open (slice_get p.segments after) (placed.unasked after kept below).1 (waited below);
-      all_decided = λ s below. elim (same_or_not s k) [
+      all_decided = λ s below. elim (cases_eq s k) [
         | inl e ↦ (let no_way : true ≡ false = sym (placed.all_decided s below) ∙ ap (λ n. is_decided (segment_state p n)) e ∙ can_undecided p old.server k can in cc)
         | inr other ↦ ap is_decided (state-same p links p.segments s refl left (held s other)) ∙ placed.all_decided s below
       ];
@@ -97,7 +97,7 @@ pub placed-none : (p : Pipeline) (server : ℕ) (lows : List ℕ) (fresh decided
 placed-none p server lows fresh decided none small placed = record {
   as_many = length-set lows server (length p.segments) ∙ placed.as_many;
   marks = placed.marks;
-  closed = λ v low s read below. elim (same_or_not v server) [
+  closed = λ v low s read below. elim (cases_eq v server) [
     | inl e ↦ (let here : slice_get (set lows server (length p.segments)) server ≡ Some low = ap (λ n. slice_get (set lows server (length p.segments)) n) (sym e) ∙ read in
         let low_is : low ≡ length p.segments = new_low lows server (length p.segments) low (omega (arith, placed.as_many)) here in
         ap (λ n. can_be_asked p n s) e ∙ first_none_at (can_be_asked p server) 0 (length p.segments) s none (omega arith) (omega arith))
@@ -129,7 +129,7 @@ marks_kept server NotHere was whole = length-edit was.answered server (λ old. t
 
 answered_closed : (q : Pipeline) (i k v low server : ℕ) (outcome : Outcome) (was : SegmentAt) (lows : List ℕ) → slice_get q.segments k ≡ Some (with_outcome server outcome was) → length was.answered ≡ 16 → server < 16 → HasFallen lows server k outcome v low → k < low → can_be_asked q v k ≡ false
 answered_closed q i k v low server HasArrived was lows now whole small fell below = sym (arrived_cannot q v k (ap is_arrived_at now))
-answered_closed q i k v low server NotHere was lows now whole small fell below = elim (same_or_not v server) [
+answered_closed q i k v low server NotHere was lows now whole small fell below = elim (cases_eq v server) [
   | inl e ↦ sym (answered_cannot q v k (ap (is_answered_at v) now ∙ ap (λ n. slice_index_or (edit_at server (λ old. true) was.answered) n false) e ∙ marked was.answered server (omega arith)))
   | inr other ↦ absurd (omega (arith, fell.fell refl other))
 ]
@@ -166,22 +166,22 @@ placed-reply p i k outcome old was lows after fresh decided is first there exclu
     ] in
     record {
       as_many = many;
-      marks = λ s known read. elim (same_or_not s k) [
+      marks = λ s known read. elim (cases_eq s k) [
         | inl e ↦ (let both : Some known ≡ Some (with_outcome old.server outcome was) = sym read ∙ ap (λ n. slice_get segments n) e ∙ now in
             let same : known ≡ with_outcome old.server outcome was = cc in
             ap (λ (x : SegmentAt). length x.answered) same ∙ marks_kept old.server outcome was whole)
         | inr other ↦ placed.marks s known (sym (seen s other) ∙ read)
       ];
-      closed = λ v low s read below. elim (same_or_not s k) [
+      closed = λ v low s read below. elim (cases_eq s k) [
         | inl e ↦ ap (λ n. can_be_asked q v n) e ∙ answered_closed q i k v low old.server outcome was lows now whole small (fell v low read) (omega (arith, e))
         | inr other ↦ (let fallen = fell v low read in can-same p links segments v s (seen s other) left (held s other) ∙ placed.closed v fallen.was s fallen.before (omega (arith, fallen.kept)))
       ];
       unasked = λ s from below.
           (let other : s ≢ k = λ e. absurd (omega (arith, e)) in
           let under : s < length p.segments = rw (← length-edit p.segments k f) below in
-          (held s other ∙ (placed.unasked s from under).0, subst IsUntouched (sym (seen s other)) (placed.unasked s from under).1));
+          (held s other ∙ (placed.unasked s from under).0, subst IsUnaskedOrArrived (sym (seen s other)) (placed.unasked s from under).1));
       first_unasked = λ below. seen fresh (λ e. absurd (omega (arith, e, below_fresh))) ∙ placed.first_unasked (rw (← length-edit p.segments k f) below);
-      all_decided = λ s below. elim (same_or_not s k) [
+      all_decided = λ s below. elim (cases_eq s k) [
         | inl e ↦ (let state : is_decided (segment_state p k) ≡ false = out_undecided (is_arrived_at (slice_get p.segments k)) (holder p.links k) (0 + i) (is_spent p k) here (not_arrived_by (is_arrived_at (slice_get p.segments k)) (λ arrived. absurd (omega (arith, exclusive.none_arrived k arrived, some, one_of_all p.links i k old is)))) in
             let no_way : true ≡ false = sym (placed.all_decided s below) ∙ ap (λ n. is_decided (segment_state p n)) e ∙ state in cc)
         | inr other ↦ ap is_decided (state-same p links segments s (seen s other) left (held s other)) ∙ placed.all_decided s below
@@ -195,21 +195,21 @@ placed-settling p k was lows fresh after decided there unheld kept waited placed
     let now : slice_get q.segments k ≡ Some (with_arrival was) = get-edit_same p.segments k with_arrival was there in
     let arrived : is_arrived_at (slice_get q.segments k) ≡ true = ap is_arrived_at now in
     let seen : (s : ℕ) → s ≢ k → slice_get q.segments s ≡ slice_get p.segments s = λ s other. get-edit_other p.segments k s with_arrival other in
-    let untouched : (s : ℕ) → after ≤ s → s < length q.segments → IsUntouched (slice_get q.segments s) = λ s from below.
+    let untouched : (s : ℕ) → after ≤ s → s < length q.segments → IsUnaskedOrArrived (slice_get q.segments s) = λ s from below.
     (let under : s < length p.segments = rw (← length-edit p.segments k with_arrival) below in
-    elim (same_or_not s k) [
+    elim (cases_eq s k) [
       | inl e ↦ inr (ap (λ n. is_arrived_at (slice_get q.segments n)) e ∙ arrived)
-      | inr other ↦ subst IsUntouched (sym (seen s other)) (placed.unasked s (omega (arith, kept, from)) under).1
+      | inr other ↦ subst IsUnaskedOrArrived (sym (seen s other)) (placed.unasked s (omega (arith, kept, from)) under).1
     ]) in
     record {
       as_many = placed.as_many;
-      marks = λ s known read. elim (same_or_not s k) [
+      marks = λ s known read. elim (cases_eq s k) [
         | inl e ↦ (let both : Some known ≡ Some (with_arrival was) = sym read ∙ ap (λ n. slice_get q.segments n) e ∙ now in
             let same : known ≡ with_arrival was = cc in
             ap (λ (x : SegmentAt). length x.answered) same ∙ placed.marks k was there)
         | inr other ↦ placed.marks s known (sym (seen s other) ∙ read)
       ];
-      closed = λ v low s read below. elim (same_or_not s k) [
+      closed = λ v low s read below. elim (cases_eq s k) [
         | inl e ↦ ap (λ n. can_be_asked q v n) e ∙ sym (arrived_cannot q v k arrived)
         | inr other ↦ can-same p p.links q.segments v s (seen s other) (λ v. refl) refl ∙ placed.closed v low s read below
       ];
@@ -217,7 +217,7 @@ placed-settling p k was lows fresh after decided there unheld kept waited placed
           (let under : s < length p.segments = rw (← length-edit p.segments k with_arrival) below in
           ((placed.unasked s (omega (arith, kept, from)) under).0, untouched s from below));
       first_unasked = λ below. untouched_open (slice_get q.segments after) (untouched after (omega arith) below) (waited below);
-      all_decided = λ s below. elim (same_or_not s k) [
+      all_decided = λ s below. elim (cases_eq s k) [
         | inl e ↦ ap (λ n. is_decided (segment_state q n)) e ∙ arrived_decided (is_arrived_at (slice_get q.segments k)) (holder q.links k) (is_spent q k) arrived
         | inr other ↦ ap is_decided (state-same p p.links q.segments s (seen s other) (λ v. refl) refl) ∙ placed.all_decided s below
       ];
@@ -318,7 +318,7 @@ pub record Falling (before lows : List ℕ) (server segment : ℕ) (upto : ℕ) 
 pub falling-step : (before lows : List ℕ) (server segment other low new : ℕ) → Falling before lows server segment other → other < 16 → slice_get lows other ≡ Some low → new ≤ low → (other ≢ server → new ≤ segment) → Falling before (set lows other new) server segment (other + 1)
 falling-step before lows server segment other low new falling below read kept fell = record {
   many = length-set lows other new ∙ falling.many;
-  done = λ k value under got. elim (same_or_not k other) [
+  done = λ k value under got. elim (cases_eq k other) [
     | inl e ↦ (let here : slice_get (set lows other new) other ≡ Some value = ap (λ n. slice_get (set lows other new) n) (sym e) ∙ got in
         let both : Some value ≡ Some new = sym here ∙ get-set_same lows other new low read in
         let same : value ≡ new = cc in

@@ -38,7 +38,7 @@ pub record IsHeldBy (links : List LinkAt) (segments : List SegmentAt) (holders :
   pub each : (segment : ℕ) → segment < length segments → slice_get holders segment ≡ Some (holder links segment)
 
 -- what the lists that a core keeps are
-pub record IsSound (links : List LinkAt) (segments : List SegmentAt) (holders : List (Option ℕ)) (levels : List ℕ) (depth : ℕ) : Type 0 where
+pub record AreSoundLists (links : List LinkAt) (segments : List SegmentAt) (holders : List (Option ℕ)) (levels : List ℕ) (depth : ℕ) : Type 0 where
   pub exclusive : IsExclusive links segments
   pub unanswered : AreUnanswered links segments
   pub idle : AreIdle links
@@ -46,8 +46,8 @@ pub record IsSound (links : List LinkAt) (segments : List SegmentAt) (holders : 
   pub held : IsHeldBy links segments holders
 
 -- of a segment that was never asked for nothing is known, or that it arrived all the same
-abbrev pub IsUntouched : Option SegmentAt → Type 0
-IsUntouched known = (known ≡ Some unanswered) ⊎ (is_arrived_at known ≡ true)
+abbrev pub IsUnaskedOrArrived : Option SegmentAt → Type 0
+IsUnaskedOrArrived known = (known ≡ Some unanswered) ⊎ (is_arrived_at known ≡ true)
 
 -- the places at which searches begin: a server can be asked for no segment below its own, be they answered, not open, or held
 -- back for a server of a lower level; none from `fresh` on was asked for, and that one hasn't arrived; and each below `decided` is
@@ -56,7 +56,7 @@ pub record IsPlaced (p : Pipeline) (lows : List ℕ) (fresh decided : ℕ) : Typ
   pub as_many : length lows ≡ 16
   pub marks : (segment : ℕ) (known : SegmentAt) → slice_get p.segments segment ≡ Some known → length known.answered ≡ 16
   pub closed : (server low segment : ℕ) → slice_get lows server ≡ Some low → segment < low → can_be_asked p server segment ≡ false
-  pub unasked : (segment : ℕ) → fresh ≤ segment → segment < length p.segments → (holder p.links segment ≡ None) × IsUntouched (slice_get p.segments segment)
+  pub unasked : (segment : ℕ) → fresh ≤ segment → segment < length p.segments → (holder p.links segment ≡ None) × IsUnaskedOrArrived (slice_get p.segments segment)
   pub first_unasked : fresh < length p.segments → slice_get p.segments fresh ≡ Some unanswered
   pub all_decided : (segment : ℕ) → segment < decided → is_decided (segment_state p segment) ≡ true
 
@@ -69,12 +69,12 @@ pub record HasFallen (lows : List ℕ) (server segment : ℕ) (outcome : Outcome
   pub fell : outcome ≡ NotHere → other ≢ server → low ≤ segment
 
 -- what is true of a core, the places included
-pub record IsKept (p : Pipeline) (holders : List (Option ℕ)) (lows : List ℕ) (fresh decided : ℕ) : Type 0 where
-  pub sound : IsSound p.links p.segments holders p.levels p.depth
+pub record IsSoundCore (p : Pipeline) (holders : List (Option ℕ)) (lows : List ℕ) (fresh decided : ℕ) : Type 0 where
+  pub sound : AreSoundLists p.links p.segments holders p.levels p.depth
   pub placed : IsPlaced p lows fresh decided
 
 -- what a caller can know of each core
-pub record IsWhole (p : Pipeline) : Type 0 where
+pub record IsSoundPipeline (p : Pipeline) : Type 0 where
   pub exclusive : IsExclusive p.links p.segments
   pub unanswered : AreUnanswered p.links p.segments
   pub idle : AreIdle p.links

@@ -3,7 +3,7 @@ ghost use Rattle.std.specs.Prelude.{◌≡◌, ◌<◌, ◌≤◌, ◌-◌, ℕ,
 ghost use Rattle.pipeline_core.specs.Links.{has_link_left, holder};
 ghost use Rattle.pipeline_core.specs.Pipeline.{start, segment_state, next_segment, can_be_asked, asked_on, is_decided, is_finished, after_greeting, after_next, after_reply, after_over, after_settling, is_greeted_on, is_over_on};
 ghost use Rattle.pipeline_core.specs.Searches.{first_from, waits_for};
-ghost use Rattle.pipeline_core.specs.Sound.{IsWhole};
+ghost use Rattle.pipeline_core.specs.Sound.{IsSoundPipeline};
 ghost use Rattle.limits.specs.declared.TheConstants.{MOST_SEGMENTS};
 
 use crate::link::Link;
@@ -28,13 +28,13 @@ pub struct Core {
 
 impl Model for Core {
     ghost use Rattle.pipeline_core.specs.PipelineAt.{Pipeline};
-    ghost use Rattle.pipeline_core.specs.Sound.{IsKept};
+    ghost use Rattle.pipeline_core.specs.Sound.{IsSoundCore};
 
     ghost Value = { Pipeline };
 
     ghost view = { λ c. record { links = c.links.items; segments = c.segments.items; levels = c.levels.items; depth = c.depth } };
 
-    ghost invariant = { λ c. IsKept (record { links = c.links.items; segments = c.segments.items; levels = c.levels.items; depth = c.depth }) c.holders.items c.places.lows c.places.fresh c.places.decided };
+    ghost invariant = { λ c. IsSoundCore (record { links = c.links.items; segments = c.segments.items; levels = c.levels.items; depth = c.depth }) c.holders.items c.places.lows c.places.fresh c.places.decided };
 }
 
 impl Core {
@@ -321,7 +321,7 @@ impl Core {
     pub fn state(&self, segment: u32) -> SegmentState
         requires { segment < length self.now.segments }
         ensures state { result ≡ segment_state self.now segment }
-        ensures whole { IsWhole self.now }
+        ensures whole { IsSoundPipeline self.now }
     {
         let marks = &self.segments[segment as usize];
         if marks.has_arrived() {
@@ -342,7 +342,7 @@ impl Core {
     /// Whether each segment has arrived or is exhausted.
     pub fn finished(&self) -> bool
         ensures value { result ≡ is_finished self.now }
-        ensures whole { IsWhole self.now }
+        ensures whole { IsSoundPipeline self.now }
     {
         self.first_undecided() as usize == self.segments.len()
     }

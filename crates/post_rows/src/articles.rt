@@ -1,103 +1,97 @@
 // The articles of a file.
-use crate::fixtures::{are_lines, make_article, settings_of};
-use lists::{Bytes, Lines};
-use poster::plan;
-use std::test::Fail;
+ghost use Rattle.poster.specs.Plan.{IsPlanOf};
+ghost use Rattle.poster.specs.Settings.{AreSettings};
+
+use crate::fixtures::{Desk, desk_of, has_lines, make, planned_of};
+use std::process::Abort;
+
+// Asserts how many octets an article has, and that this is its block.
+fn is_sent<R: Abort>(rt: &R, desk: Desk, octets: u64, block: &[u8]) {
+    assert!(rt; desk.octets == octets);
+    assert!(rt; desk.block.as_slice() == block);
+}
 
 #[test]
-fn a_short_file_has_one_article(rt: HostRuntime) -> Result<(), Fail> {
-    let settings = settings_of(rt.alloc(), b"alt.binaries.test", 750_000)?;
-    let plan = plan(rt.alloc(), &settings, 9)?;
-    let mut lines = Lines::new(rt.alloc());
-    let mut block = Bytes::new(rt.alloc());
-    let octets = make_article(&settings, &plan, 1, b"123456789", &mut lines, &mut block)?;
-    assert_eq!(rt; octets, 188);
-    assert!(rt;
-        are_lines(
-            &lines,
-            &[
-                b"From: me@example.org",
-                b"Newsgroups: alt.binaries.test",
-                b"Subject: \"d\" yEnc (1/1)",
-                b"Message-ID: <tok.1of1@example.org>",
-                b"",
-                b"=ybegin line=128 size=9 name=d",
-                b"[\\]^_`abc",
-                b"=yend size=9 crc32=cbf43926",
-            ]
-        )
-    );
-    assert_eq!(rt;
-        block.as_slice(),
+fn a_short_file_has_one_article(rt: HostRuntime) {
+    let desk = desk_of(&rt, planned_of(&rt, b"alt.binaries.test", 750_000, 9));
+    let lines: [&[u8]; 8] = [
+        b"From: me@example.org",
+        b"Newsgroups: alt.binaries.test",
+        b"Subject: \"d\" yEnc (1/1)",
+        b"Message-ID: <tok.1of1@example.org>",
+        b"",
+        b"=ybegin line=128 size=9 name=d",
+        b"[\\]^_`abc",
+        b"=yend size=9 crc32=cbf43926",
+    ];
+    let block =
         b"From: me@example.org\r\nNewsgroups: alt.binaries.test\r\nSubject: \"d\" yEnc (1/1)\r\n\
         Message-ID: <tok.1of1@example.org>\r\n\r\n=ybegin line=128 size=9 name=d\r\n\
-        [\\]^_`abc\r\n=yend size=9 crc32=cbf43926\r\n.\r\n"
-            .as_slice()
-    );
-    Ok(())
+        [\\]^_`abc\r\n=yend size=9 crc32=cbf43926\r\n.\r\n";
+    let desk = make(&rt, desk, 1, b"123456789");
+    is_sent(&rt, has_lines(&rt, desk, &lines), 188, block);
+}
+
+// Asserts that the line at this place is this one, of so many.
+fn has_line<R: Abort>(rt: &R, desk: Desk, lines: usize, place: usize, wanted: &[u8]) -> Desk {
+    assert!(rt; desk.lines.len() == lines && place < lines);
+    assert!(rt; desk.lines.line(place) == wanted);
+    desk
+}
+
+// Asserts that a block has so many bytes, and these at a place.
+fn has_bytes<R: Abort>(rt: &R, desk: Desk, len: usize, place: usize, wanted: &[u8]) {
+    let block = desk.block.as_slice();
+    assert!(rt; block.len() == len);
+    assert!(rt; block[block.len().min(place)..].starts_with(wanted));
 }
 
 #[test]
-fn a_line_of_one_dot_is_sent_as_two(rt: HostRuntime) -> Result<(), Fail> {
-    let settings = settings_of(rt.alloc(), b"alt.binaries.test", 1)?;
-    let plan = plan(rt.alloc(), &settings, 1)?;
-    let mut lines = Lines::new(rt.alloc());
-    let mut block = Bytes::new(rt.alloc());
-    let octets = make_article(&settings, &plan, 1, b"\x04", &mut lines, &mut block)?;
-    assert_eq!(rt; octets, 180);
-    assert_eq!(rt; lines.len(), 8);
-    if lines.len() == 8 {
-        assert!(rt; lines.line(6) == b".".as_slice());
-    }
+fn a_line_of_one_dot_is_sent_as_two(rt: HostRuntime) {
+    let desk = desk_of(&rt, planned_of(&rt, b"alt.binaries.test", 1, 1));
+    let desk = make(&rt, desk, 1, b"\x04");
+    assert!(rt; desk.octets == 180);
+    let desk = has_line(&rt, desk, 8, 6, b".");
     // One dot more, and the dot and CRLF that end the block.
-    assert_eq!(rt; block.len(), 184);
-    let from = block.len().min(146);
-    assert!(rt; block.as_slice()[from..].starts_with(b"\r\n..\r\n=yend"));
-    Ok(())
+    has_bytes(&rt, desk, 184, 146, b"\r\n..\r\n=yend");
+}
+
+// Asserts that the next article, of the third part, is shorter.
+fn third_is_shorter<R: Abort>(rt: &R, desk: Desk, file: &[u8]) -> Desk
+    requires settings { AreSettings desk.planned.settings }
+    requires plan { IsPlanOf desk.planned.settings desk.planned.plan.size desk.planned.plan }
+{
+    let octets = desk.octets;
+    let longest = desk.block.len();
+    let desk = make(rt, desk, 3, file);
+    assert!(rt; desk.octets < octets && desk.block.len() < longest);
+    desk
 }
 
 #[test]
-fn each_part_has_an_article_of_its_own(rt: HostRuntime) -> Result<(), Fail> {
-    let settings = settings_of(rt.alloc(), b"misc.test", 9)?;
-    let plan = plan(rt.alloc(), &settings, 20)?;
-    let mut lines = Lines::new(rt.alloc());
-    let mut block = Bytes::new(rt.alloc());
+fn each_part_has_an_article_of_its_own(rt: HostRuntime) {
     let file: &[u8] = b"123456789123456789\x04\x04";
-    let first = make_article(&settings, &plan, 1, file, &mut lines, &mut block)?;
-    let longest = block.len();
-    let third = make_article(&settings, &plan, 3, file, &mut lines, &mut block)?;
-    assert!(rt; third < first);
-    assert!(rt; block.len() < longest);
-    assert!(rt;
-        are_lines(
-            &lines,
-            &[
-                b"From: me@example.org",
-                b"Newsgroups: misc.test",
-                b"Subject: \"d\" yEnc (3/3)",
-                b"Message-ID: <tok.3of3@example.org>",
-                b"",
-                b"=ybegin part=3 total=3 line=128 size=20 name=d",
-                b"=ypart begin=19 end=20",
-                b"..",
-                b"=yend size=2 part=3 pcrc32=22d813e2",
-            ]
-        )
-    );
-    Ok(())
+    let desk = desk_of(&rt, planned_of(&rt, b"misc.test", 9, 20));
+    let desk = make(&rt, desk, 1, file);
+    let desk = third_is_shorter(&rt, desk, file);
+    let lines: [&[u8]; 9] = [
+        b"From: me@example.org",
+        b"Newsgroups: misc.test",
+        b"Subject: \"d\" yEnc (3/3)",
+        b"Message-ID: <tok.3of3@example.org>",
+        b"",
+        b"=ybegin part=3 total=3 line=128 size=20 name=d",
+        b"=ypart begin=19 end=20",
+        b"..",
+        b"=yend size=2 part=3 pcrc32=22d813e2",
+    ];
+    let _desk = has_lines(&rt, desk, &lines);
 }
 
 #[test]
-fn a_file_without_bytes_has_one_article(rt: HostRuntime) -> Result<(), Fail> {
-    let settings = settings_of(rt.alloc(), b"misc.test", 9)?;
-    let plan = plan(rt.alloc(), &settings, 0)?;
-    let mut lines = Lines::new(rt.alloc());
-    let mut block = Bytes::new(rt.alloc());
-    make_article(&settings, &plan, 1, b"", &mut lines, &mut block)?;
-    assert_eq!(rt; lines.len(), 7);
-    if lines.len() == 7 {
-        assert!(rt; lines.line(5) == b"=ybegin line=128 size=0 name=d".as_slice());
-        assert!(rt; lines.line(6) == b"=yend size=0 crc32=00000000".as_slice());
-    }
-    Ok(())
+fn a_file_without_bytes_has_one_article(rt: HostRuntime) {
+    let desk = desk_of(&rt, planned_of(&rt, b"misc.test", 9, 0));
+    let desk = make(&rt, desk, 1, b"");
+    let desk = has_line(&rt, desk, 7, 5, b"=ybegin line=128 size=0 name=d");
+    let _desk = has_line(&rt, desk, 7, 6, b"=yend size=0 crc32=00000000");
 }

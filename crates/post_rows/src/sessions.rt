@@ -1,18 +1,27 @@
 // Sessions of a file of three parts.
-use crate::fixtures::settings_of;
+use crate::fixtures::{Planned, planned_of};
 use io_memory::ScriptLinks;
 use io_traits::{Input, LinkEvent};
 use lists::List;
 use nntp_lines::Why;
-use poster::{PartEnd, PostError, Sent, plan, run_post};
+use poster::{PartEnd, PostError, Sent, run_post};
 use row_fixtures::{are_kinds, bytes_sent, files_of, links_of, taking_links_of};
-use std::alloc::Global;
 use std::process::Abort;
-use std::test::Fail;
 
 const POSTED: PartEnd = PartEnd::Posted;
 
 const UNSENT: PartEnd = PartEnd::NotSent;
+
+// What links are given on which all three parts are taken.
+const ALL_TAKEN: [&[u8]; 7] = [
+    b"200 hi\r\n",
+    b"340 go\r\n",
+    b"240 ok\r\n",
+    b"340 go\r\n",
+    b"240 ok\r\n",
+    b"340 go\r\n",
+    b"240 ok\r\n",
+];
 
 // What a post answered, but for the list of outcomes.
 #[derive(Clone, Copy, Debug, PartialEq, Eq)]
@@ -41,11 +50,8 @@ fn posts<R: Abort + AllocGlobal>(
     failing: &[u64],
     failing_reads: &[u64],
 ) -> Posted {
-    let mut links = links_of(rt.alloc(), pieces, failing).expect(rt, "links");
-    match post(rt.alloc(), &mut links, failing_reads) {
-        Ok(answered) => Posted { answered, links },
-        Err(_) => rt.panic("a plan and a file"),
-    }
+    let links = links_of(rt.alloc(), pieces, failing).expect(rt, "links");
+    post(rt, links, failing_reads)
 }
 
 // Asserts that a post answered so, with these outcomes, and gives the links back.
@@ -86,19 +92,15 @@ fn third_is_shorter<R: Abort>(rt: &R, posted: Posted) -> Posted {
 
 // Posts a file of 20 bytes in parts of nine. The calls on the input of these numbers fail; the first opens the file, and each
 // part is read by one.
-fn post(
-    alloc: Global,
-    links: &mut ScriptLinks,
-    failing: &[u64],
-) -> Result<Result<List<Sent>, PostError>, Fail> {
-    let settings = settings_of(alloc, b"misc.test", 9)?;
-    let mut input = files_of(alloc, &[("d", b"12345678912345678912")], failing)?;
-    let len = input.open("d")?;
-    if len > 1_099_511_627_776 {
-        return Err("a file that isn't too long".into());
-    }
-    let plan = plan(alloc, &settings, len)?;
-    Ok(run_post(alloc, &settings, &plan, &mut input, links))
+fn post<R: Abort + AllocGlobal>(rt: &R, mut links: ScriptLinks, failing: &[u64]) -> Posted {
+    let alloc = rt.alloc();
+    let mut input = files_of(alloc, &[("d", b"12345678912345678912")], failing).expect(
+        rt, "a file",
+    );
+    let size = input.open("d").expect(rt, "a file");
+    let Planned { settings, plan } = planned_of(rt, b"misc.test", 9, size);
+    let answered = run_post(alloc, &settings, &plan, &mut input, &mut links);
+    Posted { answered, links }
 }
 
 // What was answered, where a list that was answered has these outcomes.
@@ -149,16 +151,7 @@ fn ends_with(links: &ScriptLinks, text: &[u8]) -> bool {
 
 #[test]
 fn all_parts_are_posted(rt: HostRuntime) {
-    let pieces: [&[u8]; 7] = [
-        b"200 hi\r\n",
-        b"340 go\r\n",
-        b"240 ok\r\n",
-        b"340 go\r\n",
-        b"240 ok\r\n",
-        b"340 go\r\n",
-        b"240 ok\r\n",
-    ];
-    let posted = posts(&rt, &pieces, &[], &[]);
+    let posted = posts(&rt, &ALL_TAKEN, &[], &[]);
     let posted = third_is_shorter(&rt, posted);
     let links = came_to(&rt, posted, &[POSTED, POSTED, POSTED], Outcome::Sent);
     happened_and_quit(&rt, links, b"OHSHSHSHSHSHSHS");
@@ -266,24 +259,10 @@ fn a_part_that_is_not_read_ends_the_session(rt: HostRuntime) {
     happened_and_quit(&rt, links, b"OHSHSHS");
 }
 
-// What every link of a post of three parts is given.
-const ALL_TAKEN: [&[u8]; 7] = [
-    b"200 hi\r\n",
-    b"340 go\r\n",
-    b"240 ok\r\n",
-    b"340 go\r\n",
-    b"240 ok\r\n",
-    b"340 go\r\n",
-    b"240 ok\r\n",
-];
-
 // A post over links of which the sends take at most these numbers of bytes each.
 fn posts_in_parts<R: Abort + AllocGlobal>(rt: &R, failing: &[u64], takes: &[usize]) -> Posted {
-    let mut links = taking_links_of(rt.alloc(), &ALL_TAKEN, failing, takes).expect(rt, "links");
-    match post(rt.alloc(), &mut links, &[]) {
-        Ok(answered) => Posted { answered, links },
-        Err(_) => rt.panic("a plan and a file"),
-    }
+    let links = taking_links_of(rt.alloc(), &ALL_TAKEN, failing, takes).expect(rt, "links");
+    post(rt, links, &[])
 }
 
 // Asserts that the same bytes went out on both, on the second by more sends.

@@ -13,9 +13,8 @@ use Rattle.article_head.specs.Subject.{subject_text}
 use Rattle.article_head.proofs.HeadLaws.{subject_printable}
 use Rattle.article_head.proofs.PartIdLaws.{part_id_is_message_id}
 use Rattle.article_head.proofs.Pieces.{names_are_pieces}
-use Rattle.article_head.proofs.TextLaws.{wider_passed}
 use Rattle.nntp_lines.specs.Command.{is_printable}
-use Rattle.nntp_lines.specs.GroupName.{IsGroupName, is_group_byte}
+use Rattle.nntp_lines.specs.GroupName.{IsGroupName}
 use Rattle.nntp_lines.specs.MessageId.{IsMessageId, is_id_byte}
 use Rattle.nzb_index.specs.Canonical.{IsValidFile, IsValidIndex}
 use Rattle.nzb_index.specs.Markup.{IsTextBytes, is_control, is_message_id, is_white, trimmed}
@@ -24,6 +23,7 @@ use Rattle.nzb_index.specs.declared.index.FileEntry.{FileEntry}
 use Rattle.nzb_index.specs.declared.index.Index.{Index}
 use Rattle.nzb_index.specs.declared.index.Meta.{Meta}
 use Rattle.nzb_index.specs.declared.index.Segment.{Segment}
+use Rattle.nzb_index.proofs.ValidTexts.{group_is_valid, id_is_valid, plain_text, wider}
 use Rattle.yenc_body.specs.Parts.{most_parts, parts_of}
 use Rattle.poster.specs.Article.{AreArticlesFrom, Article}
 use Rattle.poster.specs.Index.{AreOutcomes, IndexesArticles, entry_of, index_of, numbered, segments_from}
@@ -36,50 +36,11 @@ use Rattle.poster.specs.declared.settings.Settings.{Settings}
 
 -- ---- texts
 
-printable_text_byte : (byte : ℕ) → is_printable byte ≡ true → is_control byte ≡ false
-printable_text_byte byte h = grind (arith, nat_tests)
-
-group_printable : (byte : ℕ) → is_group_byte byte ≡ true → is_printable byte ≡ true
-group_printable byte h = grind (arith, nat_tests)
-
-group_not_white : (byte : ℕ) → is_group_byte byte ≡ true → is_white byte ≡ false
-group_not_white byte h = grind (arith, nat_tests)
-
-id_byte_in_nzb : (byte : ℕ) → is_id_byte byte ≡ true → nzb.is_id_byte byte ≡ true
-id_byte_in_nzb byte h = grind (arith, nat_tests)
+printable_plain : (byte : ℕ) → is_printable byte ≡ true → nat_le 32 byte ≡ true
+printable_plain byte h = grind (arith, nat_tests)
 
 printable_text : (text : List ℕ) → list_all is_printable text ≡ true → IsTextBytes text
-printable_text [] all = refl
-printable_text (byte ∷ text) all =
-    let parts = and_parts (is_printable byte) (list_all is_printable text) all in
-    rw (printable_text_byte byte parts.0, printable_text text parts.1) refl
-
-passed_at : (test : ℕ → Bool) (text : List ℕ) (i : ℕ) → i < length text → list_all test text ≡ true → test (get_or text i 0) ≡ true
-passed_at test [] i inside all = absurd (omega arith)
-passed_at test (byte ∷ text) zero inside all = (and_parts (test byte) (list_all test text) all).0
-passed_at test (byte ∷ text) (suc i) inside all = passed_at test text i (omega (arith, inside)) ((and_parts (test byte) (list_all test text) all).1)
-
--- nothing is cut from a text that begins and ends with no white
-no_white : (text : List ℕ) → list_all is_group_byte text ≡ true → trimmed text ≡ text
-no_white [] all = refl
-no_white (byte ∷ text) all =
-    let whole : List ℕ = byte ∷ text in
-    let first = group_not_white byte ((and_parts (is_group_byte byte) (list_all is_group_byte text) all).0) in
-    let front : prefix_len is_white whole ≡ 0 = rw first refl in
-    let inside : length whole - 1 < length whole = omega arith in
-    let last : suffix_len is_white whole ≡ 0 =
-    suffix_len_is is_white whole (length whole) 0 (omega arith) (λ k low high. absurd (omega arith)) (λ some. group_not_white (get_or whole (length whole - 1) 0) (passed_at is_group_byte whole (length whole - 1) inside all))
-    ∙ omega arith in
-    rw (front, last) (take_all (length whole - 0) whole (omega arith))
-
-group_is_valid : (name : List ℕ) → IsGroupName name → IsTextBytes name × (trimmed name ≡ name)
-group_is_valid name h = (printable_text name (wider_passed is_group_byte is_printable group_printable name h.all), no_white name h.all)
-
-id_is_valid : (id : List ℕ) → IsMessageId id → is_message_id id ≡ true
-id_is_valid id h =
-    and_from (nat_le 1 (length id) && nat_le (length id) 248) (list_all nzb.is_id_byte id)
-    (and_from (nat_le 1 (length id)) (nat_le (length id) 248) (le-leb 1 (length id) h.some) (le-leb (length id) 248 h.short))
-    (wider_passed is_id_byte nzb.is_id_byte id_byte_in_nzb id h.all)
+printable_text text all = plain_text text (wider is_printable (nat_le 32) printable_plain text all)
 
 -- ---- segments
 

@@ -9,7 +9,7 @@ use Rattle.nntp_lines.specs.declared.why.Why.TheVariants as why
 use Rattle.link_dialog.specs.declared.dialog.Dialog.{Dialog}
 use Rattle.link_dialog.specs.Dialog.{Message}
 use Rattle.link_dialog.specs.Replies.{Reply}
-use Rattle.link_dialog.specs.Talk.{Start, Rests, Ends, Talked, IsRefused, IsSettled, bytes_said, patience_of, quit_message}
+use Rattle.link_dialog.specs.Talk.{Start, Rests, Ends, Talked, IsMessageRefused, IsSettled, bytes_said, patience_of, quit_message}
 use Rattle.link_dialog.proofs.Sessions.{ends_longer, refused, refused_at_end, said_after, said_more}
 use Rattle.poster.specs.Said.{post_message, article_message, part_messages, post_length, part_end, refusal_in}
 use Rattle.poster.specs.Posting.{IsUnsent, IsHeld, IsBroken, IsPosting, IsSending}
@@ -59,11 +59,11 @@ post_unasked start now patience messages block replies reply some is e =
 
 -- POST is refused, and the link goes on or not
 pub post_refused : (start : Start) (now : Option (List LinkEvent)) (patience : ℕ) (messages : List Message) (replies : List Reply) (reply : Reply) → reply.code ≢ 340 →
-    Talked start now patience ((messages ++ post_message ∷ []) ++ quit_message ∷ []) (replies ++ reply ∷ []) → (reply.code ≢ 340) × IsRefused start now patience messages post_message replies reply.code
+    Talked start now patience ((messages ++ post_message ∷ []) ++ quit_message ∷ []) (replies ++ reply ∷ []) → (reply.code ≢ 340) × IsMessageRefused start now patience messages post_message replies reply.code
 post_refused start now patience messages replies reply not t = (not, refused start now patience messages post_message replies reply reply.code refl t)
 
 pub post_refused_at_end : (start : Start) (now : Option (List LinkEvent)) (patience : ℕ) (messages : List Message) (out : List ℕ) (reason : Why) (replies : List Reply) (reply : Reply) → reply.code ≢ 340 →
-    Ends start now patience (messages ++ post_message ∷ []) out reason (replies ++ reply ∷ []) → (reply.code ≢ 340) × IsRefused start now patience messages post_message replies reply.code
+    Ends start now patience (messages ++ post_message ∷ []) out reason (replies ++ reply ∷ []) → (reply.code ≢ 340) × IsMessageRefused start now patience messages post_message replies reply.code
 post_refused_at_end start now patience messages out reason replies reply not e = (not, refused_at_end start now patience messages post_message out reason replies reply reply.code refl e)
 
 -- ---- the article

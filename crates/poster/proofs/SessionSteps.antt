@@ -11,13 +11,13 @@ use Rattle.link_dialog.specs.declared.dialog.Dialog.{Dialog}
 use Rattle.link_dialog.specs.Dialog.{Message, AreFull, all_bytes, asked_by, login_messages, answers_of, answers_to, IsDialog}
 use Rattle.link_dialog.specs.Moments.{why_over}
 use Rattle.link_dialog.specs.Replies.{Reply}
-use Rattle.link_dialog.specs.Talk.{Start, Rests, Ends, Talked, IsRefused, bytes_said, patience_of, quit_message}
+use Rattle.link_dialog.specs.Talk.{Start, Rests, Ends, Talked, IsMessageRefused, bytes_said, patience_of, quit_message}
 use Rattle.link_dialog.proofs.HeardCount.{whole_heard}
 use Rattle.link_dialog.proofs.Sessions.{answers_more, count_of_answers as count_of_replies, no_answers, no_answers_at_end}
 use Rattle.link_dialog.proofs.Standing.{bytes-append, full-append}
 use Rattle.poster.specs.Said.{Made, IsMade, AreMade, blocks_of, post_message, part_messages, messages_of, NoneEmpty, post_length, part_end, is_permitted, ends_of, refusal_in, outcomes_of, out_of}
 use Rattle.poster.specs.Session.{Session, whole, HasSent, StopsAt, WasOver, WasRefused, WasStopped}
-use Rattle.poster.specs.Posting.{IsAnswered, IsOverAt, IsUnsent, IsCut, UnderWay}
+use Rattle.poster.specs.Posting.{IsPartAnswered, IsOverAt, IsUnsent, IsArticleCut, UnderWay}
 use Rattle.poster.specs.declared.index.PartEnd.{PartEnd}
 use Rattle.poster.specs.declared.index.PartEnd.TheVariants.{NotSent}
 use Rattle.poster.specs.declared.index.Sent.{Sent}
@@ -51,7 +51,7 @@ noted_next total at out any answers more mades made end before after count is le
 
 pub part_answered : (s : Settings) (size total : ℕ) (content : Option (List ℕ)) (start : Start) (then now : Option (List LinkEvent)) (dialog : Dialog) (at part : ℕ) (made : Made) (end : PartEnd) (before after : List Sent) →
     (u : UnderWay s size total content start then dialog at before) → part ≡ at + 1 → part ≤ total → IsMade s size content part made → after ≡ set before at (record { end = end; bytes = made.octets }) →
-    IsAnswered start now dialog (messages_of (blocks_of u.mades)) made.block u.replies end → UnderWay s size total content start now dialog part after
+    IsPartAnswered start now dialog (messages_of (blocks_of u.mades)) made.block u.replies end → UnderWay s size total content start now dialog part after
 part_answered s size total content start then now dialog at part made end before after u next last m set_is a =
     let more : List Reply = a.permit ∷ a.answer ∷ [] in
     let blocks : List (List ℕ) = blocks_of u.mades in
@@ -246,7 +246,7 @@ part_over s size total content start then now dialog at part made end answers ou
 
 pub part_cut : (s : Settings) (size total : ℕ) (content : Option (List ℕ)) (start : Start) (then now : Option (List LinkEvent)) (dialog : Dialog) (at part : ℕ) (made : Made) (end : PartEnd) (before after : List Sent) →
     (n : IsNext s size total content start then dialog at part made before) → after ≡ set before at (record { end = end; bytes = made.octets }) →
-    IsCut start now (patience_of dialog) (messages_of (blocks_of n.under_way.mades)) made.block n.under_way.replies end → HasSent s size total content start now after
+    IsArticleCut start now (patience_of dialog) (messages_of (blocks_of n.under_way.mades)) made.block n.under_way.replies end → HasSent s size total content start now after
 part_cut s size total content start then now dialog at part made end before after n set_is x =
     part_over s size total content start then now dialog at part made end x.answers x.out x.reason before after n set_is x.over (end_cut x.answers (length x.out) end x.permitted x.begun x.end_is) (omega (arith, x.begun))
 
@@ -282,7 +282,7 @@ first_unsent s size total content start then now dialog at part made reason befo
 
 pub part_refused : (s : Settings) (size total : ℕ) (content : Option (List ℕ)) (start : Start) (then now : Option (List LinkEvent)) (dialog : Dialog) (at part : ℕ) (made : Made) (code : ℕ) (before after : List Sent) →
     (n : IsNext s size total content start then dialog at part made before) → after ≡ set before at (record { end = NotSent; bytes = made.octets }) →
-    code ≢ 340 → IsRefused start now (patience_of dialog) (messages_of (blocks_of n.under_way.mades)) post_message n.under_way.replies code → WasRefused s size total content start now code after
+    code ≢ 340 → IsMessageRefused start now (patience_of dialog) (messages_of (blocks_of n.under_way.mades)) post_message n.under_way.replies code → WasRefused s size total content start now code after
 part_refused s size total content start then now dialog at part made code before after n set_is other x =
     let u = n.under_way in
     let blocks : List (List ℕ) = blocks_of u.mades in

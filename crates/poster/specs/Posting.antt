@@ -6,7 +6,7 @@ use Rattle.input_files.specs.Reading.{Reading, IsFaultless, HasFailed, IsReadIn,
 use Rattle.link_dialog.specs.declared.dialog.Dialog.{Dialog}
 use Rattle.link_dialog.specs.Dialog.{Message, all_bytes, answers_of}
 use Rattle.link_dialog.specs.Replies.{Reply}
-use Rattle.link_dialog.specs.Talk.{Start, Rests, Ends, IsRefused, bytes_said, patience_of}
+use Rattle.link_dialog.specs.Talk.{Start, Rests, Ends, IsMessageRefused, bytes_said, patience_of}
 use Rattle.poster.specs.Said.{Made, AreMade, blocks_of, post_message, article_message, part_messages, messages_of, post_length, article_end, part_end, is_permitted, ends_of, refusal_in, outcomes_of}
 use Rattle.poster.specs.Session.{HasSent, WasOver, WasRefused, WasStopped}
 use Rattle.poster.specs.declared.desk.Desk.{Desk}
@@ -46,7 +46,7 @@ error_of (unmade.Short place) = error.Short place
 -- ---- one article posted
 
 -- POST was permitted by 340, the article went out whole, and its answer says what became of it
-pub record IsAnswered (start : Start) (now : Option (List LinkEvent)) (dialog : Dialog) (messages : List Message) (block : List ℕ) (replies : List Reply) (end : PartEnd) : Type 0 where
+pub record IsPartAnswered (start : Start) (now : Option (List LinkEvent)) (dialog : Dialog) (messages : List Message) (block : List ℕ) (replies : List Reply) (end : PartEnd) : Type 0 where
   pub permit : Reply
   pub answer : Reply
   pub permitted : permit.code ≡ 340
@@ -67,7 +67,7 @@ pub record IsUnsent (start : Start) (now : Option (List LinkEvent)) (patience : 
   pub over : IsOverAt start now patience messages block replies answers out reason
 
 -- a byte of the article went out
-pub record IsCut (start : Start) (now : Option (List LinkEvent)) (patience : ℕ) (messages : List Message) (block : List ℕ) (replies : List Reply) (end : PartEnd) : Type 0 where
+pub record IsArticleCut (start : Start) (now : Option (List LinkEvent)) (patience : ℕ) (messages : List Message) (block : List ℕ) (replies : List Reply) (end : PartEnd) : Type 0 where
   pub answers : List Reply
   pub out : List ℕ
   pub reason : Why
@@ -77,10 +77,10 @@ pub record IsCut (start : Start) (now : Option (List LinkEvent)) (patience : ℕ
   pub over : IsOverAt start now patience messages block replies answers out reason
 
 abbrev pub IsPosting : Start → Option (List LinkEvent) → Dialog → List Message → List ℕ → List Reply → Posting → Type 0
-IsPosting start now dialog messages block replies (posting.Answered end) = IsAnswered start now dialog messages block replies end
-IsPosting start now dialog messages block replies (posting.Refused code) = (code ≢ 340) × IsRefused start now (patience_of dialog) messages post_message replies code
+IsPosting start now dialog messages block replies (posting.Answered end) = IsPartAnswered start now dialog messages block replies end
+IsPosting start now dialog messages block replies (posting.Refused code) = (code ≢ 340) × IsMessageRefused start now (patience_of dialog) messages post_message replies code
 IsPosting start now dialog messages block replies (posting.Unsent reason) = IsUnsent start now (patience_of dialog) messages block replies reason
-IsPosting start now dialog messages block replies (posting.Cut end) = IsCut start now (patience_of dialog) messages block replies end
+IsPosting start now dialog messages block replies (posting.Cut end) = IsArticleCut start now (patience_of dialog) messages block replies end
 
 -- The same of an article alone, behind a POST that was permitted.
 pub record IsTaken (start : Start) (now : Option (List LinkEvent)) (dialog : Dialog) (messages : List Message) (block : List ℕ) (replies : List Reply) (end : PartEnd) : Type 0 where
@@ -129,20 +129,20 @@ pub record UnderWay (s : Settings) (size total : ℕ) (content : Option (List �
   pub noted : sent ≡ outcomes_of total (ends_of (answers_of start.login replies) (length (all_bytes (messages_of (blocks_of mades)))) (blocks_of mades)) mades
 
 -- how the posting of the parts ended, with the list of outcomes
-abbrev pub HasEnded : Settings → (size total : ℕ) → Option (List ℕ) → Start → Option (List LinkEvent) → List Sent → RunEnd → Type 0
-HasEnded s size total content start now sent run.Sent = HasSent s size total content start now sent
-HasEnded s size total content start now sent (run.Refused code) = WasRefused s size total content start now code sent
-HasEnded s size total content start now sent (run.Over reason) = WasOver s size total content start now reason
+abbrev pub PostingEnded : Settings → (size total : ℕ) → Option (List ℕ) → Start → Option (List LinkEvent) → List Sent → RunEnd → Type 0
+PostingEnded s size total content start now sent run.Sent = HasSent s size total content start now sent
+PostingEnded s size total content start now sent (run.Refused code) = WasRefused s size total content start now code sent
+PostingEnded s size total content start now sent (run.Over reason) = WasOver s size total content start now reason
 
 -- the same, or the next part wasn't made
 abbrev pub RunEnds : Settings → (size total : ℕ) → Option (List ℕ) → Start → Option (List LinkEvent) → List Sent → Result RunEnd Unmade → Type 0
-RunEnds s size total content start now sent (Ok end) = HasEnded s size total content start now sent end
+RunEnds s size total content start now sent (Ok end) = PostingEnded s size total content start now sent end
 RunEnds s size total content start now sent (Err why) = WasStopped s size total content start now
 
 -- a part was posted, and the next may be, or the posting ended with it
 abbrev pub PartEnds : Settings → (size total : ℕ) → Option (List ℕ) → Start → Option (List LinkEvent) → Dialog → ℕ → List Sent → Option RunEnd → Type 0
 PartEnds s size total content start now dialog part sent None = UnderWay s size total content start now dialog part sent
-PartEnds s size total content start now dialog part sent (Some end) = HasEnded s size total content start now sent end
+PartEnds s size total content start now dialog part sent (Some end) = PostingEnded s size total content start now sent end
 
 -- what became of the input
 abbrev pub RunReads : {T : Type 0} → ℕ → Reading → Result T Unmade → Type 0

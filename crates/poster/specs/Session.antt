@@ -31,13 +31,13 @@ pub data Way : Type 0 where
   stopped : Way
 
 -- the events of the link are a dialog of POST and an article for each part, in order, and QUIT behind them
-abbrev pub IsSaid : Way → Option Login → ℕ → ℕ → List (List ℕ) → List LinkEvent → List Reply → Type 0
-IsSaid whole login patience total blocks events replies =
+abbrev pub SaysParts : Way → Option Login → ℕ → ℕ → List (List ℕ) → List LinkEvent → List Reply → Type 0
+SaysParts whole login patience total blocks events replies =
     (more : List (List ℕ)) → NoneEmpty more → length blocks + length more ≡ total →
     IsDialog login (messages_of (blocks ++ more) ++ quit_message ∷ []) patience events replies
-IsSaid refused login patience total blocks events replies =
+SaysParts refused login patience total blocks events replies =
     IsDialog login (messages_of (take (length blocks - 1) blocks) ++ post_message ∷ quit_message ∷ []) patience events replies
-IsSaid stopped login patience total blocks events replies =
+SaysParts stopped login patience total blocks events replies =
     IsDialog login (messages_of blocks ++ quit_message ∷ []) patience events replies
 
 -- The trace goes on by one opening and such a dialog. These articles were made, of the first of so many parts.
@@ -51,7 +51,7 @@ pub record Session (way : Way) (s : Settings) (size total : ℕ) (content : Opti
   pub replies : List Reply
   pub on_this : AllOn link events
   pub told : now ≡ tell start.before (Opened link start.address ∷ events)
-  pub said : IsSaid way start.login s.patience total (blocks_of mades) events replies
+  pub said : SaysParts way start.login s.patience total (blocks_of mades) events replies
 
 -- what became of all parts
 abbrev pub outcomes_in : {way : Way} {s : Settings} {size total : ℕ} {content : Option (List ℕ)} {start : Start} {now : Option (List LinkEvent)} → Session way s size total content start now → List Sent

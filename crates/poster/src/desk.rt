@@ -60,7 +60,7 @@ pub(crate) fn make_part<I: Input>(
     ensures made { OnOk result (IsMade settings.now plan.now.size (I.content input.old) part (made_on desk.new)) }
     ensures current { I.current input.new ≡ I.current input.old }
     ensures content { I.content input.new ≡ I.content input.old }
-    ensures ends { MakeEnds plan.now.size (reading I.faults I.shorts I.short_place I.current I.blame input.old input.new) result }
+    ensures ends { MakeEnds plan.now.size (reading I.Input input.old input.new) result }
 {
     let planned = &plan.parts.as_slice()[part as usize - 1];
     let place = planned.first - 1;

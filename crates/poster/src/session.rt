@@ -62,7 +62,7 @@ pub fn run_post<I: Input, L: Links>(
 
     // What was read and said, and what became of each part; and each error comes only where its cause stands.
     ensures ends { PostEnds settings.now plan.now.size (length plan.now.parts) (I.content input.old)
-        (reading I.faults I.shorts I.short_place I.current I.blame input.old input.new)
+        (reading I.Input input.old input.new)
         (record { before = L.trace links.old; address = settings.now.server; login = settings.now.login }) (L.trace links.new) result }
     ensures cause { OnNoLink result (OpeningFailed (L.faults links.old) (L.faults links.new) (L.blame links.old) (L.blame links.new) settings.now.server) }
 
@@ -145,7 +145,7 @@ fn post_parts<I: Input, L: Links>(
     ensures ends { (start : Start) →
         UnderWay settings.now plan.now.size (length plan.now.parts) (I.content input.old) start (L.trace links.old) dialog 0 sent.old →
         RunEnds settings.now plan.now.size (length plan.now.parts) (I.content input.old) start (L.trace links.new) sent.new result }
-    ensures reads { RunReads plan.now.size (reading I.faults I.shorts I.short_place I.current I.blame input.old input.new) result }
+    ensures reads { RunReads plan.now.size (reading I.Input input.old input.new) result }
     ensures current { I.current input.new ≡ I.current input.old }
     ensures content { I.content input.new ≡ I.content input.old }
 {

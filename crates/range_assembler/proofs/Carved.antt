@@ -1,8 +1,8 @@
 -- The gaps of the entries, once a part is accepted.
-use Rattle.std.proofs.Common.{◌≡◌, ◌+◌, ◌-◌, ◌<◌, ◌≤◌, ◌^◌, inl, inr, zero, suc, ℕ, Bool, true, false, ◌&&◌, ◌||◌, List, [], ◌∷◌, Some, length, refl, ap, sym, subst, ◌∙◌, arith, set, length-set}
+use Rattle.std.proofs.Common.{◌≡◌, ◌+◌, ◌-◌, ◌<◌, ◌≤◌, inl, inr, zero, suc, ℕ, Bool, true, false, ◌&&◌, ◌||◌, List, [], ◌∷◌, Some, length, refl, ap, sym, subst, ◌∙◌, arith, set, length-set}
 use Rattle.std.specs.Prelude.{slice_get, cond, nat_lt, nat_le, ◌==◌, insert, remove}
 use Rattle.std.proofs.lemmas.Bool.Decides.{nat_tests}
-use Rattle.std.proofs.lemmas.Bool.{cases_lt}
+use Rattle.std.proofs.lemmas.Bool.{cases_lt, cases_eq}
 use Rattle.range_assembler.specs.declared.assembler.Entry.{Entry}
 use Rattle.range_assembler.specs.declared.sequence.Range.{Range}
 use Rattle.range_assembler.specs.Before.{is_before, IsPlace}
@@ -10,7 +10,6 @@ use Rattle.range_assembler.specs.Bare.{Leaves, HasOffset, IsGaps, IsBare, trimme
 use Rattle.range_assembler.specs.Entries.{covers, is_accepted}
 use Rattle.range_assembler.specs.Missing.{is_covered}
 use Rattle.range_assembler.specs.Order.{with_range}
-use Rattle.range_assembler.proofs.Places.{same_or_not}
 use Rattle.range_assembler.proofs.Scanning.{covers_means, means_covers}
 use Rattle.range_assembler.proofs.Ordering.{not_before, reaches, some_at, within}
 use Rattle.range_assembler.proofs.Changes.{left_over}
@@ -80,7 +79,7 @@ later_at file offset range later =
 
 -- no gap begins just behind another
 two_gaps : (bare : ℕ → ℕ → Type 0) (files : ℕ) (ranges : List Range) (j k : ℕ) (one other : Range) → IsGaps bare files ranges → slice_get ranges j ≡ Some one → slice_get ranges k ≡ Some other → one.file ≡ other.file → one.first ≤ one.last → other.first ≤ one.last + 1 → one.last + 1 ≤ other.last → ⊥
-two_gaps bare files ranges j k one other are first second its some low high = elim (same_or_not k j) [
+two_gaps bare files ranges j k one other are first second its some low high = elim (cases_eq k j) [
   | inl same ↦ (let e : Some one ≡ Some other = sym first ∙ ap (λ n. slice_get ranges n) (sym same) ∙ second in
       let f : one ≡ other = cc in
       let g : one.last ≡ other.last = ap (λ (r : Range). r.last) f in absurd (omega (arith, g, high)))
@@ -99,10 +98,10 @@ two_gaps bare files ranges j k one other are first second its some low high = el
 offset_place : (bare : ℕ → ℕ → Type 0) (files : ℕ) (ranges : List Range) (file offset place : ℕ) → IsGaps bare files ranges → IsPlace file offset ranges place → (found : HasOffset file offset ranges) → found.place ≡ place
 offset_place bare files ranges file offset place are at found =
     let a = found.low in let b = found.high in let c = found.its in
-    elim (same_or_not found.place place) [
+    elim (cases_eq found.place place) [
       | inl same ↦ same
       | inr other ↦ elim (cases_lt found.place place) [
-        | inl less ↦ elim (same_or_not (found.place + 1) place) [
+        | inl less ↦ elim (cases_eq (found.place + 1) place) [
           | inl next ↦ (let no_way : true ≡ false = sym (at.below found.place found.range next found.there) ∙ (reach_at file offset found.range c b) in cc)
           | inr far ↦ (let w = at.within in
               let before : place - 1 < length ranges = omega (arith, w, less) in
@@ -240,7 +239,7 @@ carve_case entries files i p old new ranges gap is none some are there its low a
     (trim_above ranges p new.first gap (record { file = gap.file; segment = i; first = new.last + 1; last = gap.last }) (IsBare entries) files are there refl refl b)
     (λ file offset bare. bare_still entries i file offset old new is none bare.0 (λ same from upto. bare.1 (same ∙ sym its) from (omega (arith, upto, high))))
     (λ offset from upto. bare_still entries i gap.file offset old new is none (are.sound p gap offset there (omega (arith, from, low, asked)) upto) (λ same begin end. absurd (omega (arith, end, from))))
-    (λ file offset bare. let parts = bare_after entries i file offset old new is none some bare in elim (same_or_not file gap.file) [
+    (λ file offset bare. let parts = bare_after entries i file offset old new is none some bare in elim (cases_eq file gap.file) [
       | inl same ↦ elim (cases_lt offset new.first) [
         | inl before ↦ inl (parts.0, λ e from upto. absurd (omega (arith, before, from)))
         | inr after ↦ elim (cases_lt new.last offset) [

@@ -1,11 +1,11 @@
 -- What is left of the gaps, once the offsets of a range are taken out of one.
 use Rattle.std.proofs.Common.{◌≡◌, ◌≢◌, ◌+◌, ◌-◌, ◌<◌, ◌≤◌, ◌⊎◌, inl, inr, zero, suc, ℕ, List, [], ◌∷◌, Some, length, refl, ap, sym, subst, ◌∙◌, arith, set}
 use Rattle.std.specs.Prelude.{slice_get, insert, remove}
-use Rattle.std.proofs.lemmas.Bool.{cases_lt}
+use Rattle.std.proofs.lemmas.Bool.{cases_lt, cases_eq}
 use Rattle.range_assembler.specs.declared.sequence.Range.{Range}
 use Rattle.range_assembler.specs.Bare.{Leaves, IsGap, IsGaps}
-use Rattle.range_assembler.proofs.Places.{get-set_other, get-set_same, same_or_not}
-use Rattle.range_assembler.proofs.Changes.{came, left_over, stays, is_new, remains}
+use Rattle.range_assembler.proofs.Places.{get-set_other, get-set_same}
+use Rattle.range_assembler.proofs.Changes.{came, left_over, stays, is_new, remains, more_in_order}
 
 -- bare, but for these offsets
 abbrev pub Less : (ℕ → ℕ → Type 0) → ℕ → ℕ → ℕ → ℕ → ℕ → Type 0
@@ -69,7 +69,7 @@ trim_set bare files ranges p first gap are there low high =
             (subst (λ n. bare n offset) e (are.sound p gap offset there (omega (arith, f, from)) (omega (arith, g, upto, high))), λ same d h. absurd (omega (arith, g, upto, d, low))))
         | inr c ↦ (are.sound k range offset c.1 from upto, λ same d h. one_gap bare files ranges k p offset range gap are c.1 there same from upto (omega (arith, low, d)) h c.0)
       ];
-      whole = λ file offset of one up is_bare. let found = are.whole file offset of one up is_bare.0 in elim (same_or_not found.place p) [
+      whole = λ file offset of one up is_bare. let found = are.whole file offset of one up is_bare.0 in elim (cases_eq found.place p) [
         | inl same ↦ (let e : gap ≡ found.range = same_at ranges p found.place gap found.range there found.there same in
             let f : gap.file ≡ found.range.file = ap (λ (r : Range). r.file) e in
             let g : gap.first ≡ found.range.first = ap (λ (r : Range). r.first) e in
@@ -101,7 +101,7 @@ trim_remove bare files ranges p first gap are there low = record {
     | inl c ↦ (are.sound k range offset c.1 from upto, λ same d h. (let few = c.0 in one_gap bare files ranges k p offset range gap are c.1 there same from upto (omega (arith, low, d)) h (λ e. absurd (omega (arith, e, few)))))
     | inr c ↦ (are.sound (suc k) range offset c.1 from upto, λ same d h. (let few = c.0 in one_gap bare files ranges (suc k) p offset range gap are c.1 there same from upto (omega (arith, low, d)) h (λ e. absurd (omega (arith, e, few)))))
   ];
-  whole = λ file offset of one up is_bare. let found = are.whole file offset of one up is_bare.0 in elim (same_or_not found.place p) [
+  whole = λ file offset of one up is_bare. let found = are.whole file offset of one up is_bare.0 in elim (cases_eq found.place p) [
     | inl same ↦ (let e : gap ≡ found.range = same_at ranges p found.place gap found.range there found.there same in
         let f : gap.file ≡ found.range.file = ap (λ (r : Range). r.file) e in
         let g : gap.first ≡ found.range.first = ap (λ (r : Range). r.first) e in
@@ -112,37 +112,10 @@ trim_remove bare files ranges p first gap are there low = record {
   ];
 }
 
-more_apart : (ranges : List Range) (p : ℕ) (y : Range) → p ≤ length ranges → ((j k : ℕ) (one other : Range) → j < k → slice_get ranges j ≡ Some one → slice_get ranges k ≡ Some other → Leaves one other) → ((j : ℕ) (one : Range) → j < p → slice_get ranges j ≡ Some one → Leaves one y) → ((k : ℕ) (other : Range) → p ≤ k → slice_get ranges k ≡ Some other → Leaves y other) → (j k : ℕ) (one other : Range) → j < k → slice_get (insert ranges p y) j ≡ Some one → slice_get (insert ranges p y) k ≡ Some other → Leaves one other
-more_apart xs p y low rising below above j k one other less first second = elim (came xs p y j one low first) [
-  | inl a ↦ elim (came xs p y k other low second) [
-    | inl b ↦ rising j k one other less a.1 b.1
-    | inr c ↦ elim c [
-      | inl b ↦ subst (λ r. Leaves one r) b.1 (below j one a.0 a.1)
-      | inr b ↦ (let past = b.past in let up : j < b.before = omega (arith, a.0, past) in rising j b.before one other up a.1 b.there)
-    ]
-  ]
-  | inr d ↦ elim d [
-    | inl a ↦ elim (came xs p y k other low second) [
-      | inl b ↦ absurd (omega (arith, less, a.0, b.0))
-      | inr c ↦ elim c [
-        | inl b ↦ absurd (omega (arith, less, a.0, b.0))
-        | inr b ↦ subst (λ r. Leaves r other) a.1 (above b.before other b.past b.there)
-      ]
-    ]
-    | inr a ↦ (let past = a.past in let next = a.next in elim (came xs p y k other low second) [
-      | inl b ↦ absurd (omega (arith, less, past, next, b.0))
-      | inr c ↦ elim c [
-        | inl b ↦ absurd (omega (arith, less, past, next, b.0))
-        | inr b ↦ (let more = b.next in let up : a.before < b.before = omega (arith, less, next, more) in rising a.before b.before one other up a.there b.there)
-      ]
-    ])
-  ]
-]
-
 -- one more gap at its place
 pub add_gap : (bare more : ℕ → ℕ → Type 0) (files : ℕ) (ranges : List Range) (p : ℕ) (gap : Range) → IsGaps bare files ranges → p ≤ length ranges → IsGap files gap → ((j : ℕ) (one : Range) → j < p → slice_get ranges j ≡ Some one → Leaves one gap) → ((k : ℕ) (other : Range) → p ≤ k → slice_get ranges k ≡ Some other → Leaves gap other) → ((file offset : ℕ) → bare file offset → more file offset) → ((offset : ℕ) → gap.first ≤ offset → offset ≤ gap.last → more gap.file offset) → ((file offset : ℕ) → more file offset → (bare file offset) ⊎ ((file ≡ gap.file) × (gap.first ≤ offset) × (offset ≤ gap.last))) → IsGaps more files (insert ranges p gap)
 add_gap bare more files ranges p gap are low is below above grows new back = record {
-  apart = more_apart ranges p gap low are.apart below above;
+  apart = more_in_order Leaves ranges p gap low are.apart below above;
   each = λ k range a. elim (came ranges p gap k range low a) [
     | inl c ↦ are.each k range c.1
     | inr c ↦ elim c [ inl d ↦ subst (λ r. IsGap files r) d.1 is | inr d ↦ are.each d.before range d.there ]

@@ -1,11 +1,11 @@
 -- What a change of one entry makes of the order.
 use Rattle.std.proofs.Common.{◌≡◌, ◌≢◌, ◌+◌, ◌<◌, ◌≤◌, ◌⊎◌, inl, inr, zero, suc, ℕ, Bool, true, false, List, [], ◌∷◌, Some, length, refl, ap, sym, subst, ◌∙◌, arith, set}
 use Rattle.std.specs.Prelude.{slice_get, cond, insert, remove}
-use Rattle.std.proofs.lemmas.Bool.{cases_lt}
+use Rattle.std.proofs.lemmas.Bool.{cases_lt, cases_eq}
 use Rattle.range_assembler.specs.declared.assembler.Entry.{Entry}
 use Rattle.range_assembler.specs.declared.sequence.Range.{Range}
-use Rattle.range_assembler.specs.Order.{Precedes, range_of, is_shown, count_shown, Stands, IsListed, IsOrder, IsAbsent}
-use Rattle.range_assembler.proofs.Places.{get-set_other, get-set_same, same_or_not}
+use Rattle.range_assembler.specs.Order.{Precedes, range_of, is_shown, count_shown, IsOfEntry, IsAmongRanges, IsOrder, IsAbsent}
+use Rattle.range_assembler.proofs.Places.{get-set_other, get-set_same}
 use Rattle.range_assembler.proofs.Ordering.{has_offset}
 
 pub record IsPast {X : Type 0} (xs : List X) (p k : ℕ) (x : X) : Type 0 where
@@ -28,16 +28,16 @@ came (z ∷ xs) (suc p) y (suc k) x low is = elim (came xs p y k x (omega arith)
   ]
 ]
 
-one_later : (z : Range) (xs : List Range) (x : Range) → IsListed xs x → IsListed (z ∷ xs) x
+one_later : (z : Range) (xs : List Range) (x : Range) → IsAmongRanges xs x → IsAmongRanges (z ∷ xs) x
 one_later z xs x listed = record { place = suc listed.place; there = listed.there }
 
-pub stays : (xs : List Range) (p : ℕ) (y : Range) (j : ℕ) (x : Range) → slice_get xs j ≡ Some x → IsListed (insert xs p y) x
+pub stays : (xs : List Range) (p : ℕ) (y : Range) (j : ℕ) (x : Range) → slice_get xs j ≡ Some x → IsAmongRanges (insert xs p y) x
 stays xs zero y j x is = record { place = suc j; there = is }
 stays [] (suc p) y j x is = cc
 stays (z ∷ xs) (suc p) y zero x is = record { place = 0; there = is }
 stays (z ∷ xs) (suc p) y (suc j) x is = one_later z (insert xs p y) x (stays xs p y j x is)
 
-pub is_new : (xs : List Range) (p : ℕ) (y : Range) → p ≤ length xs → IsListed (insert xs p y) y
+pub is_new : (xs : List Range) (p : ℕ) (y : Range) → p ≤ length xs → IsAmongRanges (insert xs p y) y
 is_new xs zero y low = record { place = 0; there = refl }
 is_new [] (suc p) y low = absurd (omega arith)
 is_new (z ∷ xs) (suc p) y low = one_later z (insert xs p y) y (is_new xs p y (omega arith))
@@ -53,7 +53,7 @@ left_over (z ∷ xs) (suc p) (suc k) x is = elim (left_over xs p k x is) [
   | inr c ↦ (let more : suc p ≤ suc k = omega (arith, c.0) in inr (more, c.1))
 ]
 
-pub remains : (xs : List Range) (p j : ℕ) (x : Range) → slice_get xs j ≡ Some x → j ≢ p → IsListed (remove xs p) x
+pub remains : (xs : List Range) (p j : ℕ) (x : Range) → slice_get xs j ≡ Some x → j ≢ p → IsAmongRanges (remove xs p) x
 remains [] p j x is other = cc
 remains (z ∷ xs) zero zero x is other = absurd (other refl)
 remains (z ∷ xs) zero (suc j) x is other = record { place = j; there = is }
@@ -61,10 +61,10 @@ remains (z ∷ xs) (suc p) zero x is other = record { place = 0; there = is }
 remains (z ∷ xs) (suc p) (suc j) x is other = one_later z (remove xs p) x (remains xs p j x is (λ same. other (ap (λ n. suc n) same)))
 
 -- the entry of another segment
-stands_other : (entries : List Entry) (i : ℕ) (new : Entry) (range : Range) → Stands entries range → range.segment ≢ i → Stands (set entries i new) range
+stands_other : (entries : List Entry) (i : ℕ) (new : Entry) (range : Range) → IsOfEntry entries range → range.segment ≢ i → IsOfEntry (set entries i new) range
 stands_other entries i new range stands other = record { entry = stands.entry; there = get-set_other entries i range.segment new other ∙ stands.there; shown = stands.shown; same = stands.same }
 
-shown_other : (entries : List Entry) (i : ℕ) (old : Entry) (range : Range) → slice_get entries i ≡ Some old → is_shown old ≡ false → Stands entries range → range.segment ≢ i
+shown_other : (entries : List Entry) (i : ℕ) (old : Entry) (range : Range) → slice_get entries i ≡ Some old → is_shown old ≡ false → IsOfEntry entries range → range.segment ≢ i
 shown_other entries i old range is none stands same =
     let there : slice_get entries i ≡ Some stands.entry = subst (λ k. slice_get entries k ≡ Some stands.entry) same stands.there in
     let one : Some old ≡ Some stands.entry = sym is ∙ there in
@@ -80,7 +80,7 @@ pub order-hidden : (entries : List Entry) (ranges : List Range) (i : ℕ) (old n
 order-hidden entries ranges i old new order is none still = record {
   rising = order.rising;
   sound = λ k range there. stands_other entries i new range (order.sound k range there) (absent entries ranges i old order is none k range there);
-  whole = λ segment entry there shown. elim (same_or_not segment i) [
+  whole = λ segment entry there shown. elim (cases_eq segment i) [
     | inl same ↦ (let e : new ≡ entry = (let one : Some new ≡ Some entry = sym (get-set_same entries i new old is) ∙ ap (λ n. slice_get (set entries i new) n) (sym same) ∙ there in cc) in
         let no_way : false ≡ true = sym still ∙ ap is_shown e ∙ shown in cc)
     | inr other ↦ order.whole segment entry (sym (get-set_other entries i segment new other) ∙ there) shown
@@ -91,7 +91,7 @@ order-hidden entries ranges i old new order is none still = record {
 pub order-kept : (entries : List Entry) (ranges : List Range) (i : ℕ) (old new : Entry) → IsOrder entries ranges → slice_get entries i ≡ Some old → is_shown old ≡ true → is_shown new ≡ true → range_of i old ≡ range_of i new → IsOrder (set entries i new) ranges
 order-kept entries ranges i old new order is shows still kept = record {
   rising = order.rising;
-  sound = λ k range there. let stands = order.sound k range there in elim (same_or_not range.segment i) [
+  sound = λ k range there. let stands = order.sound k range there in elim (cases_eq range.segment i) [
     | inl same ↦ (let here : slice_get entries i ≡ Some stands.entry = subst (λ n. slice_get entries n ≡ Some stands.entry) same stands.there in
         let one : Some old ≡ Some stands.entry = sym is ∙ here in
         let e : old ≡ stands.entry = cc in
@@ -103,21 +103,22 @@ order-kept entries ranges i old new order is shows still kept = record {
         })
     | inr other ↦ stands_other entries i new range stands other
   ];
-  whole = λ segment entry there shown. elim (same_or_not segment i) [
+  whole = λ segment entry there shown. elim (cases_eq segment i) [
     | inl same ↦ (let one : Some new ≡ Some entry = sym (get-set_same entries i new old is) ∙ ap (λ n. slice_get (set entries i new) n) (sym same) ∙ there in
         let e : new ≡ entry = cc in
         let its : range_of i old ≡ range_of segment entry = kept ∙ ap (λ n. range_of n new) (sym same) ∙ ap (λ (x : Entry). range_of segment x) e in
-        subst (λ r. IsListed ranges r) its (order.whole i old is shows))
+        subst (λ r. IsAmongRanges ranges r) its (order.whole i old is shows))
     | inr other ↦ order.whole segment entry (sym (get-set_other entries i segment new other) ∙ there) shown
   ];
 }
 
-rising_more : (xs : List Range) (p : ℕ) (y : Range) → p ≤ length xs → ((j k : ℕ) (one other : Range) → j < k → slice_get xs j ≡ Some one → slice_get xs k ≡ Some other → Precedes one other) → ((j : ℕ) (one : Range) → j < p → slice_get xs j ≡ Some one → Precedes one y) → ((k : ℕ) (other : Range) → p ≤ k → slice_get xs k ≡ Some other → Precedes y other) → (j k : ℕ) (one other : Range) → j < k → slice_get (insert xs p y) j ≡ Some one → slice_get (insert xs p y) k ≡ Some other → Precedes one other
-rising_more xs p y low rising below above j k one other less first second = elim (came xs p y j one low first) [
+-- one more at its place, where each stands so before those behind it
+pub more_in_order : (Before : Range → Range → Type 0) (xs : List Range) (p : ℕ) (y : Range) → p ≤ length xs → ((j k : ℕ) (one other : Range) → j < k → slice_get xs j ≡ Some one → slice_get xs k ≡ Some other → Before one other) → ((j : ℕ) (one : Range) → j < p → slice_get xs j ≡ Some one → Before one y) → ((k : ℕ) (other : Range) → p ≤ k → slice_get xs k ≡ Some other → Before y other) → (j k : ℕ) (one other : Range) → j < k → slice_get (insert xs p y) j ≡ Some one → slice_get (insert xs p y) k ≡ Some other → Before one other
+more_in_order Before xs p y low rising below above j k one other less first second = elim (came xs p y j one low first) [
   | inl a ↦ elim (came xs p y k other low second) [
     | inl b ↦ rising j k one other less a.1 b.1
     | inr c ↦ elim c [
-      | inl b ↦ subst (λ r. Precedes one r) b.1 (below j one a.0 a.1)
+      | inl b ↦ subst (λ r. Before one r) b.1 (below j one a.0 a.1)
       | inr b ↦ (let past = b.past in let up : j < b.before = omega (arith, a.0, past) in rising j b.before one other up a.1 b.there)
     ]
   ]
@@ -126,7 +127,7 @@ rising_more xs p y low rising below above j k one other less first second = elim
       | inl b ↦ absurd (omega (arith, less, a.0, b.0))
       | inr c ↦ elim c [
         | inl b ↦ absurd (omega (arith, less, a.0, b.0))
-        | inr b ↦ subst (λ r. Precedes r other) a.1 (above b.before other b.past b.there)
+        | inr b ↦ subst (λ r. Before r other) a.1 (above b.before other b.past b.there)
       ]
     ]
     | inr a ↦ (let past = a.past in let next = a.next in elim (came xs p y k other low second) [
@@ -142,19 +143,19 @@ rising_more xs p y low rising below above j k one other less first second = elim
 -- an entry shows a range that has its place
 pub order-insert : (entries : List Entry) (ranges : List Range) (i p : ℕ) (old new : Entry) → IsOrder entries ranges → slice_get entries i ≡ Some old → is_shown old ≡ false → is_shown new ≡ true → p ≤ length ranges → ((j : ℕ) (one : Range) → j < p → slice_get ranges j ≡ Some one → Precedes one (range_of i new)) → ((k : ℕ) (other : Range) → p ≤ k → slice_get ranges k ≡ Some other → Precedes (range_of i new) other) → IsOrder (set entries i new) (insert ranges p (range_of i new))
 order-insert entries ranges i p old new order is none shows low below above = record {
-  rising = rising_more ranges p (range_of i new) low order.rising below above;
+  rising = more_in_order Precedes ranges p (range_of i new) low order.rising below above;
   sound = λ k range there. elim (came ranges p (range_of i new) k range low there) [
     | inl a ↦ stands_other entries i new range (order.sound k range a.1) (absent entries ranges i old order is none k range a.1)
     | inr c ↦ elim c [
-      | inl a ↦ subst (λ r. Stands (set entries i new) r) a.1 (record { entry = new; there = get-set_same entries i new old is; shown = shows; same = refl })
+      | inl a ↦ subst (λ r. IsOfEntry (set entries i new) r) a.1 (record { entry = new; there = get-set_same entries i new old is; shown = shows; same = refl })
       | inr a ↦ stands_other entries i new range (order.sound a.before range a.there) (absent entries ranges i old order is none a.before range a.there)
     ]
   ];
-  whole = λ segment entry there shown. elim (same_or_not segment i) [
+  whole = λ segment entry there shown. elim (cases_eq segment i) [
     | inl same ↦ (let one : Some new ≡ Some entry = sym (get-set_same entries i new old is) ∙ ap (λ n. slice_get (set entries i new) n) (sym same) ∙ there in
         let e : new ≡ entry = cc in
         let its : range_of i new ≡ range_of segment entry = ap (λ n. range_of n new) (sym same) ∙ ap (λ (x : Entry). range_of segment x) e in
-        subst (λ r. IsListed (insert ranges p (range_of i new)) r) its (is_new ranges p (range_of i new) low))
+        subst (λ r. IsAmongRanges (insert ranges p (range_of i new)) r) its (is_new ranges p (range_of i new) low))
     | inr other ↦ (let listed = order.whole segment entry (sym (get-set_other entries i segment new other) ∙ there) shown in stays ranges p (range_of i new) listed.place (range_of segment entry) listed.there)
   ];
 }
@@ -199,7 +200,7 @@ order-remove entries ranges i p old new order is none here = record {
     | inl a ↦ stands_other entries i new range (order.sound k range a.1) (λ its. one_place entries ranges i p k old range order is here a.1 its (λ same. absurd (omega (arith, same, a.0))))
     | inr a ↦ stands_other entries i new range (order.sound (suc k) range a.1) (λ its. one_place entries ranges i p (suc k) old range order is here a.1 its (λ same. absurd (omega (arith, same, a.0))))
   ];
-  whole = λ segment entry there shown. elim (same_or_not segment i) [
+  whole = λ segment entry there shown. elim (cases_eq segment i) [
     | inl same ↦ (let one : Some new ≡ Some entry = sym (get-set_same entries i new old is) ∙ ap (λ n. slice_get (set entries i new) n) (sym same) ∙ there in
         let e : new ≡ entry = cc in
         let no_way : false ≡ true = sym none ∙ ap is_shown e ∙ shown in cc)

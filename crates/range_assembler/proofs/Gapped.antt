@@ -2,7 +2,7 @@
 use Rattle.std.proofs.Common.{◌≡◌, ◌≢◌, ◌+◌, ◌-◌, ◌<◌, ◌≤◌, ◌^◌, ◌⊎◌, inl, inr, zero, suc, ℕ, Bool, true, false, List, [], ◌∷◌, Option, Some, None, length, refl, ap, sym, subst, ◌∙◌, arith, set, length-set}
 use Rattle.std.specs.Prelude.{slice_get, cond, nat_lt, nat_le, insert}
 use Rattle.std.proofs.lemmas.Bool.Decides.{nat_tests}
-use Rattle.std.proofs.lemmas.Bool.{cases_lt}
+use Rattle.std.proofs.lemmas.Bool.{cases_lt, cases_eq}
 use Rattle.range_assembler.specs.declared.assembler.Entry.{Entry}
 use Rattle.range_assembler.specs.declared.assembler.Hold.{Hold}
 use Rattle.range_assembler.specs.declared.assembler.Hold.TheVariants.{Free, Held, Accepted}
@@ -13,8 +13,8 @@ use Rattle.range_assembler.specs.Claims.{is_free, is_held}
 use Rattle.range_assembler.specs.Entries.{is_taken, is_accepted, kept_size, entries_of}
 use Rattle.range_assembler.specs.Missing.{is_covered, gaps, missing_of}
 use Rattle.range_assembler.specs.Order.{with_range, IsAbsent, IsIndexed}
-use Rattle.range_assembler.specs.Sound.{IsSound}
-use Rattle.range_assembler.proofs.Places.{get-set_other, get-set_same, same_or_not}
+use Rattle.range_assembler.specs.Sound.{AreSoundRanges}
+use Rattle.range_assembler.proofs.Places.{get-set_other, get-set_same}
 use Rattle.range_assembler.proofs.Scanning.{covered_by, covers_means, kept_is}
 use Rattle.range_assembler.proofs.SetLaws.{shared}
 use Rattle.range_assembler.proofs.Holds.{free_in}
@@ -138,7 +138,7 @@ gapped-same entries after i files old new gapped is none still = record {
 }
 
 -- what the range of a segment has isn't covered by another
-clear : (entries : List Entry) (i offset : ℕ) (old : Entry) → IsSound entries → slice_get entries i ≡ Some old → is_taken old.hold ≡ true → is_accepted old.hold ≡ false → old.first ≤ offset → offset ≤ old.last → IsBare entries old.file offset
+clear : (entries : List Entry) (i offset : ℕ) (old : Entry) → AreSoundRanges entries → slice_get entries i ≡ Some old → is_taken old.hold ≡ true → is_accepted old.hold ≡ false → old.first ≤ offset → offset ≤ old.last → IsBare entries old.file offset
 clear entries i offset old sound is taken none low high = bare_by (is_covered old.file entries offset) (λ covered.
     let by = covered_by old.file entries offset covered in
     let c = covers_means old.file offset by.entry by.has in
@@ -167,7 +167,7 @@ accept_many entries i size old is none =
     omega (arith, a, b)
 
 -- a part with offsets
-accept_some : (entries : List Entry) (gaps : List Range × ℕ) (after : List Range × ℕ) (i files size p : ℕ) (old : Entry) → IsSound entries → IsGapped entries gaps files → slice_get entries i ≡ Some old → is_taken old.hold ≡ true → is_accepted old.hold ≡ false → old.file < files → old.first ≤ old.last → IsPlace old.file old.first gaps.0 p → after.0 ≡ carved p (slice_get gaps.0 p) record { file = old.file; segment = i; first = old.first; last = old.last } gaps.0 → after.1 ≡ gaps.1 → IsGapped (set entries i record { file = old.file; hold = Accepted size; first = old.first; last = old.last }) after files
+accept_some : (entries : List Entry) (gaps : List Range × ℕ) (after : List Range × ℕ) (i files size p : ℕ) (old : Entry) → AreSoundRanges entries → IsGapped entries gaps files → slice_get entries i ≡ Some old → is_taken old.hold ≡ true → is_accepted old.hold ≡ false → old.file < files → old.first ≤ old.last → IsPlace old.file old.first gaps.0 p → after.0 ≡ carved p (slice_get gaps.0 p) record { file = old.file; segment = i; first = old.first; last = old.last } gaps.0 → after.1 ≡ gaps.1 → IsGapped (set entries i record { file = old.file; hold = Accepted size; first = old.first; last = old.last }) after files
 accept_some entries gaps after i files size p old sound gapped is taken none its asked at ranges sides =
     let bounds = sound.ranges i old is taken in
     let one = bounds.from_one in let small = bounds.small in
@@ -217,7 +217,7 @@ accept_none entries gaps after i files size p old gapped is none empty ranges si
     }
 
 -- a part is accepted
-pub gapped-accept : (entries : List Entry) (gaps : List Range × ℕ) (after : List Range × ℕ) (i files size p : ℕ) (old : Entry) → IsSound entries → IsGapped entries gaps files → slice_get entries i ≡ Some old → is_held old.hold ≡ true → old.file < files → IsPlace old.file old.first gaps.0 p → after.0 ≡ carved p (slice_get gaps.0 p) record { file = old.file; segment = i; first = old.first; last = old.last } gaps.0 → after.1 ≡ gaps.1 → IsGapped (set entries i record { file = old.file; hold = Accepted size; first = old.first; last = old.last }) after files
+pub gapped-accept : (entries : List Entry) (gaps : List Range × ℕ) (after : List Range × ℕ) (i files size p : ℕ) (old : Entry) → AreSoundRanges entries → IsGapped entries gaps files → slice_get entries i ≡ Some old → is_held old.hold ≡ true → old.file < files → IsPlace old.file old.first gaps.0 p → after.0 ≡ carved p (slice_get gaps.0 p) record { file = old.file; segment = i; first = old.first; last = old.last } gaps.0 → after.1 ≡ gaps.1 → IsGapped (set entries i record { file = old.file; hold = Accepted size; first = old.first; last = old.last }) after files
 gapped-accept entries gaps after i files size p old sound gapped is held its at ranges sides =
     let holds = held_only old.hold held in
     elim (cases_lt old.last old.first) [
@@ -228,7 +228,7 @@ gapped-accept entries gaps after i files size p old sound gapped is held its at 
 -- where the gaps of a file begin
 gaps_from : (bare : ℕ → ℕ → Type 0) (files : ℕ) (ranges : List Range) (file place : ℕ) → IsGaps bare files ranges → IsPlace file 1 ranges place → IsFrom file 1 place ranges
 gaps_from bare files ranges file place are at = record {
-  below = λ k range low is. elim (same_or_not (k + 1) place) [
+  below = λ k range low is. elim (cases_eq (k + 1) place) [
     | inl next ↦ before_means file 1 range (at.below k range next is)
     | inr other ↦ (let w = at.within in
         let here = some_at ranges (place - 1) (omega (arith, w, low)) in
@@ -243,7 +243,7 @@ gaps_from bare files ranges file place are at = record {
           | inr a ↦ (let d = a.1 in absurd (omega (arith, d, s, o)))
         ])
   ];
-  behind = λ k range high is. (let one = (are.each k range is).low in elim (same_or_not k place) [
+  behind = λ k range high is. (let one = (are.each k range is).low in elim (cases_eq k place) [
     | inl same ↦ elim (not_before file 1 range (at.from range (ap (λ n. slice_get ranges n) (sym same) ∙ is))) [
       | inl a ↦ inl a
       | inr a ↦ inr (a.0, one)

@@ -1,17 +1,17 @@
 -- What a change of one entry leaves.
-use Rattle.std.proofs.Common.{◌≡◌, ◌≢◌, ◌+◌, ◌<◌, ◌≤◌, ◌^◌, ◌⊎◌, inl, inr, zero, suc, ℕ, Bool, true, false, ◌&&◌, List, [], ◌∷◌, ◌++◌, Option, Some, None, length, refl, ap, sym, subst, ◌∙◌, arith, set, length-set, replicate}
+use Rattle.std.proofs.Common.{◌≡◌, ◌≢◌, ◌+◌, ◌<◌, ◌≤◌, ◌⊎◌, inl, inr, zero, suc, ℕ, Bool, true, false, ◌&&◌, List, [], ◌∷◌, ◌++◌, Option, Some, None, length, refl, ap, sym, subst, ◌∙◌, arith, set, length-set, replicate}
 use Rattle.std.specs.Prelude.{slice_get, nat_le, ◌==◌}
 use Rattle.std.proofs.lemmas.Bool.Decides.{nat_tests}
 use Rattle.std.proofs.lemmas.Option.{slice_get_past}
-use Rattle.std.proofs.lemmas.Bool.{cases_lt}
+use Rattle.std.proofs.lemmas.Bool.{cases_lt, cases_eq}
 use Rattle.lists.specs.Edit.{edit_at}
 use Rattle.range_assembler.specs.declared.assembler.Entry.{Entry}
 use Rattle.range_assembler.specs.declared.assembler.Hold.{Hold}
 use Rattle.range_assembler.specs.declared.assembler.Hold.TheVariants.{Free, Held, Accepted}
 use Rattle.range_assembler.specs.Entries.{least_clash, shares, is_taken, kept_size, free_entry, entries_of}
 use Rattle.range_assembler.specs.Claims.{is_held}
-use Rattle.range_assembler.specs.Sound.{IsSound, IsRange}
-use Rattle.range_assembler.proofs.Places.{get-set_other, get-set_same, same_or_not}
+use Rattle.range_assembler.specs.Sound.{AreSoundRanges, IsSoundRange}
+use Rattle.range_assembler.proofs.Places.{get-set_other, get-set_same}
 use Rattle.range_assembler.proofs.Scanning.{no_clash, kept_is, kept_none}
 use Rattle.limits.specs.declared.TheConstants.{MOST_FILE_BYTES, MOST_SEGMENTS}
 
@@ -62,7 +62,7 @@ pub record IsAt (entries : List Entry) (i k : ℕ) (new found : Entry) : Type 0 
   pub way : ((k ≡ i) × (new ≡ found)) ⊎ ((k ≢ i) × (slice_get entries k ≡ Some found))
 
 at_of : (entries : List Entry) (i k : ℕ) (old new found : Entry) → slice_get entries i ≡ Some old → slice_get (set entries i new) k ≡ Some found → ((k ≡ i) × (new ≡ found)) ⊎ ((k ≢ i) × (slice_get entries k ≡ Some found))
-at_of entries i k old new found is read = elim (same_or_not k i) [
+at_of entries i k old new found is read = elim (cases_eq k i) [
   | inl e ↦ (let there : Some new ≡ Some found = sym (get-set_same entries i new old is) ∙ ap (λ n. slice_get (set entries i new) n) (sym e) ∙ read in
       let same : new ≡ found = cc in inl (e, same))
   | inr other ↦ inr (other, sym (get-set_other entries i k new other) ∙ read)
@@ -70,7 +70,7 @@ at_of entries i k old new found is read = elim (same_or_not k i) [
 
 -- a write that keeps what is true of every assembler
 pub record Fits (entries : List Entry) (i : ℕ) (new : Entry) : Type 0 where
-  pub range : is_taken new.hold ≡ true → IsRange new
+  pub range : is_taken new.hold ≡ true → IsSoundRange new
   pub apart : (k : ℕ) (other : Entry) → k ≢ i → slice_get entries k ≡ Some other → is_taken new.hold ≡ true → shares new.file new.first new.last other ≡ false
   pub size : (k size kept : ℕ) (other : Entry) → slice_get entries k ≡ Some other → new.file ≡ other.file → new.hold ≡ Accepted size → other.hold ≡ Accepted kept → size ≡ kept
   pub within : (size : ℕ) → new.hold ≡ Accepted size → new.last ≤ size
@@ -79,7 +79,7 @@ apart_new : (entries : List Entry) (i k : ℕ) (new other : Entry) → Fits entr
 apart_new entries i k new other fits differ is taken true here = shares-sym other new taken here ∙ fits.apart k other differ is here
 apart_new entries i k new other fits differ is taken false here = no_share other.file other.first other.last new here
 
-pub sound-set : (entries : List Entry) (i : ℕ) (old new : Entry) → IsSound entries → slice_get entries i ≡ Some old → Fits entries i new → IsSound (set entries i new)
+pub sound-set : (entries : List Entry) (i : ℕ) (old new : Entry) → AreSoundRanges entries → slice_get entries i ≡ Some old → Fits entries i new → AreSoundRanges (set entries i new)
 sound-set entries i old new sound is fits = record {
   few = rw length-set sound.few;
   apart = λ j k entry other differ one two taken.
@@ -96,7 +96,7 @@ sound-set entries i old new sound is fits = record {
         ]
       ];
   ranges = λ k entry one taken. elim (at_of entries i k old new entry is one) [
-    | inl here ↦ (let P : Entry → Type 0 = λ e. is_taken e.hold ≡ true → IsRange e in subst P here.1 fits.range taken)
+    | inl here ↦ (let P : Entry → Type 0 = λ e. is_taken e.hold ≡ true → IsSoundRange e in subst P here.1 fits.range taken)
     | inr here ↦ sound.ranges k entry here.1 taken
   ];
   one_size = λ j k entry other size kept one two its first second.
@@ -130,14 +130,14 @@ held_taken Free is = cc
 held_taken Held is = refl
 held_taken (Accepted size) is = refl
 
-kept_case : (entries : List Entry) (k size kept : ℕ) (old other : Entry) → IsSound entries → slice_get entries k ≡ Some other → old.file ≡ other.file → other.hold ≡ Accepted kept → ((n : ℕ) → kept_size old.file entries ≡ Some n → n ≡ size) → (o : Option ℕ) → kept_size old.file entries ≡ o → size ≡ kept
+kept_case : (entries : List Entry) (k size kept : ℕ) (old other : Entry) → AreSoundRanges entries → slice_get entries k ≡ Some other → old.file ≡ other.file → other.hold ≡ Accepted kept → ((n : ℕ) → kept_size old.file entries ≡ Some n → n ≡ size) → (o : Option ℕ) → kept_size old.file entries ≡ o → size ≡ kept
 kept_case entries k size kept old other sound there its has same None none = absurd (kept_none old.file entries k kept other none there (sym its) has)
 kept_case entries k size kept old other sound there its has same (Some n) found =
     let r = kept_is old.file n entries found in
     sym (same n found) ∙ sound.one_size r.place k r.entry other n kept r.is there (r.its ∙ its) r.has has
 
 -- a held range is accepted
-pub fits-accept : (entries : List Entry) (i size : ℕ) (old : Entry) → IsSound entries → slice_get entries i ≡ Some old → is_held old.hold ≡ true → old.last ≤ size → ((kept : ℕ) → kept_size old.file entries ≡ Some kept → kept ≡ size) → Fits entries i record { file = old.file; hold = Accepted size; first = old.first; last = old.last }
+pub fits-accept : (entries : List Entry) (i size : ℕ) (old : Entry) → AreSoundRanges entries → slice_get entries i ≡ Some old → is_held old.hold ≡ true → old.last ≤ size → ((kept : ℕ) → kept_size old.file entries ≡ Some kept → kept ≡ size) → Fits entries i record { file = old.file; hold = Accepted size; first = old.first; last = old.last }
 fits-accept entries i size old sound is held small same = record {
   range = λ t. let r = sound.ranges i old is (held_taken old.hold held) in record { from_one = r.from_one; forward = r.forward; small = r.small };
   apart = λ k other differ there t. sound.apart i k old other (λ e. differ (sym e)) is there (held_taken old.hold held);
@@ -166,7 +166,7 @@ pub free_in : (file : ℕ) (counts : List ℕ) (k : ℕ) (entry : Entry) → sli
 free_in file [] k entry is = cc
 free_in file (count ∷ counts) k entry is = free_among file count (entries_of (file + 1) counts) k entry (λ n there. free_in (file + 1) counts n entry there) is
 
-pub sound-start : (counts : List ℕ) → length (entries_of 0 counts) ≤ MOST_SEGMENTS → IsSound (entries_of 0 counts)
+pub sound-start : (counts : List ℕ) → length (entries_of 0 counts) ≤ MOST_SEGMENTS → AreSoundRanges (entries_of 0 counts)
 sound-start counts few = record {
   few = few;
   apart = λ j k entry other differ one two taken. let no_way : false ≡ true = sym (ap is_taken (free_in 0 counts j entry one)) ∙ taken in cc;

@@ -3,7 +3,7 @@ use Rattle.std.proofs.Common.{◌≡◌, ◌≢◌, ◌+◌, ◌<◌, ◌≤◌,
 use Rattle.std.proofs.Math.ListN.{length-replicate}
 use Rattle.std.specs.Prelude.{slice_get, cond, nat_le, ◌==◌, insert, remove}
 use Rattle.std.proofs.lemmas.Bool.Decides.{nat_tests}
-use Rattle.std.proofs.lemmas.Bool.{cases_lt}
+use Rattle.std.proofs.lemmas.Bool.{cases_lt, cases_eq}
 use Rattle.range_assembler.specs.declared.assembler.Entry.{Entry}
 use Rattle.range_assembler.specs.declared.assembler.Hold.{Hold}
 use Rattle.range_assembler.specs.declared.assembler.Hold.TheVariants.{Free, Held, Accepted}
@@ -12,9 +12,9 @@ use Rattle.range_assembler.specs.Before.{IsPlace}
 use Rattle.range_assembler.specs.Claims.{is_free, is_held}
 use Rattle.range_assembler.specs.Entries.{least_clash, shares, is_taken, is_accepted, kept_size, size_here, free_entry, entries_of}
 use Rattle.range_assembler.specs.Order.{range_of, is_shown, count_shown, IsOrder, IsAbsent, IsIndexed, with_range, without_place, size_read}
-use Rattle.range_assembler.specs.Sound.{IsSound}
+use Rattle.range_assembler.specs.Sound.{AreSoundRanges}
 use Rattle.range_assembler.proofs.Holds.{sound-set, sound-start, free_in, fits-claim, fits-accept, fits-release}
-use Rattle.range_assembler.proofs.Places.{get-set_other, get-set_same, same_or_not}
+use Rattle.range_assembler.proofs.Places.{get-set_other, get-set_same}
 use Rattle.range_assembler.proofs.Scanning.{no_clash, kept_is, kept_none}
 use Rattle.range_assembler.proofs.SetLaws.{shared}
 use Rattle.range_assembler.proofs.Ordering.{not_before, before_means, reaches, below_place, from_place, leads, some_at, within, has_offset, shown_means}
@@ -56,14 +56,14 @@ kept-other (entry ∷ entries) zero file old new is differ its =
     ∙ sym (size_other file entry.file entry.hold (kept_size file entries) (λ e. differ (sym (ap (λ (x : Entry). x.file) same) ∙ e)))
 kept-other (entry ∷ entries) (suc i) file old new is differ its = ap (λ o. size_here file entry.file entry.hold o) (kept-other entries i file old new is differ its)
 
-kept_now_case : (entries : List Entry) (i size : ℕ) (new : Entry) (o : Option ℕ) → IsSound entries → slice_get entries i ≡ Some new → new.hold ≡ Accepted size → kept_size new.file entries ≡ o → o ≡ Some size
+kept_now_case : (entries : List Entry) (i size : ℕ) (new : Entry) (o : Option ℕ) → AreSoundRanges entries → slice_get entries i ≡ Some new → new.hold ≡ Accepted size → kept_size new.file entries ≡ o → o ≡ Some size
 kept_now_case entries i size new None sound is has found = absurd (kept_none new.file entries i size new found is refl has)
 kept_now_case entries i size new (Some n) sound is has found =
     let r = kept_is new.file n entries found in
     ap (λ k. Some k) (sound.one_size r.place i r.entry new n size r.is is r.its r.has has)
 
 -- the file's size, where one of its parts was accepted with it
-kept_now : (entries : List Entry) (i size : ℕ) (new : Entry) → IsSound entries → slice_get entries i ≡ Some new → new.hold ≡ Accepted size → kept_size new.file entries ≡ Some size
+kept_now : (entries : List Entry) (i size : ℕ) (new : Entry) → AreSoundRanges entries → slice_get entries i ≡ Some new → new.hold ≡ Accepted size → kept_size new.file entries ≡ Some size
 kept_now entries i size new sound is has = kept_now_case entries i size new (kept_size new.file entries) sound is has refl
 
 free_not : (hold : Hold) → is_free hold ≡ true → (is_taken hold ≡ false) × (is_accepted hold ≡ false)
@@ -85,7 +85,7 @@ absent_free entries order sizes i old index is free = absent entries order.0 i o
 
 -- a range that isn't before an offset, from which on none is
 not_from : (entries : List Entry) (ranges : List Range) (file first p k : ℕ) (other : Range) → IsOrder entries ranges → IsPlace file first ranges p → p ≤ k → slice_get ranges k ≡ Some other → (file < other.file) ⊎ ((other.file ≡ file) × (first ≤ other.last))
-not_from entries ranges file first p k other order at high is = elim (same_or_not k p) [
+not_from entries ranges file first p k other order at high is = elim (cases_eq k p) [
   | inl same ↦ not_before file first other (at.from other (ap (λ n. slice_get ranges n) (sym same) ∙ is))
   | inr differ ↦ (let up : p < k = omega (arith, high, differ) in
       let inside : p < length ranges = (let w = within ranges k other is in omega (arith, w, up)) in
@@ -167,7 +167,7 @@ index-claim entries order after sizes i first last p old index is free at clear 
           let e = index.many in
           omega (arith, a, b, c, d, e));
       sides = (let a = index.sides in let b = same_length entries i (record { file = old.file; hold = Held; first = first; last = last }) in omega (arith, a, b, sides));
-      files = λ k entry there. elim (same_or_not k i) [
+      files = λ k entry there. elim (cases_eq k i) [
         | inl same ↦ (let two : Some (record { file = old.file; hold = Held; first = first; last = last }) ≡ Some entry = sym (get-set_same entries i _ old is) ∙ ap (λ n. slice_get (set entries i record { file = old.file; hold = Held; first = first; last = last }) n) (sym same) ∙ there in
             let e : record { file = old.file; hold = Held; first = first; last = last } ≡ entry = cc in
             subst (λ n. n < length sizes) (ap (λ (x : Entry). x.file) e) (index.files i old is))
@@ -187,7 +187,7 @@ at_place entries ranges i p old order is shows at =
     let some = (shown_means old shows).1 in
     let listed = order.whole i old is shows in
     let high = from_place entries ranges old.file old.first p listed.place (range_of i old) order at listed.there (reaches old.file old.first (range_of i old) refl some) in
-    elim (same_or_not listed.place p) [
+    elim (cases_eq listed.place p) [
       | inl same ↦ ap (λ n. slice_get ranges n) (sym same) ∙ listed.there
       | inr other ↦ (let up : p < listed.place = omega (arith, high, other) in
           let lead = leads entries ranges old.file old.first p listed.place (range_of i old) order at listed.there refl up in
@@ -205,7 +205,7 @@ ordered_accept entries ranges i size old order is taken false test = order-hidde
 pub index-accept : (entries : List Entry) (order : List Range × ℕ) (sizes : List (Option ℕ)) (i size : ℕ) (old : Entry) → IsIndexed entries order sizes → slice_get entries i ≡ Some old → is_held old.hold ≡ true → old.last ≤ size → ((kept : ℕ) → kept_size old.file entries ≡ Some kept → kept ≡ size) → IsIndexed (set entries i record { file = old.file; hold = Accepted size; first = old.first; last = old.last }) order (set sizes old.file (Some size))
 index-accept entries order sizes i size old index is held small same =
     let holds = held_not old.hold held in
-    let sound : IsSound (set entries i record { file = old.file; hold = Accepted size; first = old.first; last = old.last }) = sound-set entries i old _ index.sound is (fits-accept entries i size old index.sound is held small same) in
+    let sound : AreSoundRanges (set entries i record { file = old.file; hold = Accepted size; first = old.first; last = old.last }) = sound-set entries i old _ index.sound is (fits-accept entries i size old index.sound is held small same) in
     let wide = same_length sizes old.file (Some size) in
     record {
       sound = sound;
@@ -215,14 +215,14 @@ index-accept entries order sizes i size old index is held small same =
           let e = index.many in
           omega (arith, c, d, e));
       sides = (let a = index.sides in let b = same_length entries i (record { file = old.file; hold = Accepted size; first = old.first; last = old.last }) in omega (arith, a, b));
-      files = λ k entry there. elim (same_or_not k i) [
+      files = λ k entry there. elim (cases_eq k i) [
         | inl here ↦ (let two : Some (record { file = old.file; hold = Accepted size; first = old.first; last = old.last }) ≡ Some entry = sym (get-set_same entries i _ old is) ∙ ap (λ n. slice_get (set entries i record { file = old.file; hold = Accepted size; first = old.first; last = old.last }) n) (sym here) ∙ there in
             let e : record { file = old.file; hold = Accepted size; first = old.first; last = old.last } ≡ entry = cc in
             let low : old.file < length (set sizes old.file (Some size)) = (let a = index.files i old is in omega (arith, a, wide)) in
             subst (λ n. n < length (set sizes old.file (Some size))) (ap (λ (x : Entry). x.file) e) low)
         | inr other ↦ (let a = index.files k entry (sym (get-set_other entries i k _ other) ∙ there) in omega (arith, a, wide))
       ];
-      known = λ file low. (let inside : file < length sizes = omega (arith, low, wide) in elim (same_or_not file old.file) [
+      known = λ file low. (let inside : file < length sizes = omega (arith, low, wide) in elim (cases_eq file old.file) [
         | inl here ↦ (let now : kept_size old.file (set entries i record { file = old.file; hold = Accepted size; first = old.first; last = old.last }) ≡ Some size = kept_now (set entries i record { file = old.file; hold = Accepted size; first = old.first; last = old.last }) i size (record { file = old.file; hold = Accepted size; first = old.first; last = old.last }) sound (get-set_same entries i _ old is) refl in
             ap (λ n. slice_get (set sizes old.file (Some size)) n) here
             ∙ get-set_same sizes old.file (Some size) (kept_size old.file entries) (index.known old.file (index.files i old is))
@@ -265,7 +265,7 @@ index-release entries order after sizes i p old index is held at ranges sides =
           let e = index.many in
           omega (arith, a, b, c, d, e));
       sides = (let a = index.sides in let b = same_length entries i (record { file = old.file; hold = Free; first = old.first; last = old.last }) in omega (arith, a, b, sides));
-      files = λ k entry there. elim (same_or_not k i) [
+      files = λ k entry there. elim (cases_eq k i) [
         | inl here ↦ (let two : Some (record { file = old.file; hold = Free; first = old.first; last = old.last }) ≡ Some entry = sym (get-set_same entries i _ old is) ∙ ap (λ n. slice_get (set entries i record { file = old.file; hold = Free; first = old.first; last = old.last }) n) (sym here) ∙ there in
             let e : record { file = old.file; hold = Free; first = old.first; last = old.last } ≡ entry = cc in
             subst (λ n. n < length sizes) (ap (λ (x : Entry). x.file) e) (index.files i old is))
@@ -305,7 +305,7 @@ index-start counts entries order sizes is low none unknown =
     let ranges : order.0 ≡ [] = ap (λ d. d.0) none in
     let wide : length sizes ≡ length counts = ap (λ (t : List (Option ℕ)). length t) unknown ∙ length-replicate (length counts) None in
     record {
-      sound = subst (λ (t : List Entry). IsSound t) (sym is) (sound-start counts low);
+      sound = subst (λ (t : List Entry). AreSoundRanges t) (sym is) (sound-start counts low);
       ordered = subst (λ (t : List Range). IsOrder entries t) (sym ranges) (record {
         rising = λ j k one other less first second. cc;
         sound = λ k range there. cc;

@@ -13,3 +13,4 @@ mod Carving
 mod Carved
 mod Gapped
 pub mod Parts
+mod EntryRead

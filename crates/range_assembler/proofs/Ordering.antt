@@ -2,15 +2,14 @@
 use Rattle.std.proofs.Common.{◌≡◌, ◌+◌, ◌-◌, ◌<◌, ◌≤◌, ◌⊎◌, inl, inr, zero, suc, ℕ, Bool, true, false, ◌&&◌, ◌||◌, List, [], ◌∷◌, Option, Some, None, length, refl, ap, sym, subst, ◌∙◌, arith}
 use Rattle.std.specs.Prelude.{slice_get, cond, nat_lt, nat_le, ◌==◌}
 use Rattle.std.proofs.lemmas.Bool.Decides.{nat_tests}
-use Rattle.std.proofs.lemmas.Bool.{cases_lt}
+use Rattle.std.proofs.lemmas.Bool.{cases_lt, cases_eq}
 use Rattle.std.proofs.lemmas.Option.{slice_get_past}
 use Rattle.range_assembler.specs.declared.assembler.Entry.{Entry}
 use Rattle.range_assembler.specs.declared.assembler.Clash.{Clash}
 use Rattle.range_assembler.specs.declared.sequence.Range.{Range}
 use Rattle.range_assembler.specs.Before.{is_before, IsPlace}
 use Rattle.range_assembler.specs.Entries.{least_clash, shares, is_taken}
-use Rattle.range_assembler.specs.Order.{Precedes, range_of, is_shown, Stands, IsOrder, clash_with}
-use Rattle.range_assembler.proofs.Places.{same_or_not}
+use Rattle.range_assembler.specs.Order.{Precedes, range_of, is_shown, IsOfEntry, IsOrder, clash_with}
 use Rattle.range_assembler.proofs.Scanning.{both, no_clash}
 use Rattle.range_assembler.proofs.SetLaws.{shared, shared_means, found_of}
 
@@ -106,7 +105,7 @@ before_chain file offset one other precedes some is = elim (before_means file of
 
 -- all that stands below the place is before the offset
 pub below_place : (entries : List Entry) (ranges : List Range) (file offset place k : ℕ) (range : Range) → IsOrder entries ranges → IsPlace file offset ranges place → k < place → slice_get ranges k ≡ Some range → is_before file offset range ≡ true
-below_place entries ranges file offset place k range order at low is = elim (same_or_not (k + 1) place) [
+below_place entries ranges file offset place k range order at low is = elim (cases_eq (k + 1) place) [
   | inl next ↦ at.below k range next is
   | inr other ↦ (let inside : place - 1 < length ranges = (let w = at.within in omega (arith, w, low)) in
       let last = some_at ranges (place - 1) inside in
@@ -154,7 +153,7 @@ with_true file first last range its low asked =
     rw (a, b, c) refl
 
 -- the entry of a range at the place shares an offset
-stands_shared : (entries : List Entry) (ranges : List Range) (file first last k : ℕ) (range : Range) → IsOrder entries ranges → (stands : Stands entries range) → range.file ≡ file → range.first ≤ last → first ≤ range.last → first ≤ last → shares file first last stands.entry ≡ true
+stands_shared : (entries : List Entry) (ranges : List Range) (file first last k : ℕ) (range : Range) → IsOrder entries ranges → (stands : IsOfEntry entries range) → range.file ≡ file → range.first ≤ last → first ≤ range.last → first ≤ last → shares file first last stands.entry ≡ true
 stands_shared entries ranges file first last k range order stands its low reach asked =
     let means = shown_means stands.entry stands.shown in
     let some = means.1 in
@@ -197,7 +196,7 @@ some_case entries ranges file first last place clash order at is =
     let means = shared_means file first last found.entry found.its in
     let listed = order.whole found.place found.entry found.there (some_shown found.entry means.taken means.some) in
     let high = from_place entries ranges file first place listed.place (range_of found.place found.entry) order at listed.there (reaches file first (range_of found.place found.entry) means.its means.ends) in
-    elim (same_or_not listed.place place) [
+    elim (cases_eq listed.place place) [
       | inl same ↦ (let there : slice_get ranges place ≡ Some (range_of found.place found.entry) = subst (λ k. slice_get ranges k ≡ Some (range_of found.place found.entry)) same listed.there in
           let number : found.place ≡ clash.other = (let e : 0 + found.place ≡ found.place = omega arith in sym (found.number ∙ e)) in
           let hit = with_true file first last (range_of found.place found.entry) means.its means.begins means.asked in

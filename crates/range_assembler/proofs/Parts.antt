@@ -1,8 +1,9 @@
 -- The accepted ranges of a file, read off the ranges in order.
-use Rattle.std.proofs.Common.{◌≡◌, ◌≢◌, ◌+◌, ◌-◌, ◌<◌, ◌≤◌, ◌⊎◌, inl, inr, zero, suc, ℕ, Bool, true, false, ◌&&◌, List, [], ◌∷◌, Option, Some, None, length, drop, refl, ap, sym, subst, ◌∙◌, arith}
+use Rattle.std.proofs.Common.{◌≡◌, ◌≢◌, ◌+◌, ◌-◌, ◌<◌, ◌≤◌, inl, inr, zero, suc, ℕ, Bool, true, false, ◌&&◌, List, [], ◌∷◌, Some, None, length, drop, refl, ap, sym, subst, ◌∙◌, arith}
 use Rattle.std.specs.Prelude.{slice_get, cond, ◌==◌}
 use Rattle.std.proofs.lemmas.Bool.Decides.{nat_tests}
-use Rattle.std.proofs.lemmas.Bool.{cases_lt, cases_Bool}
+use Rattle.std.proofs.lemmas.List.Sums.{take_while-cons}
+use Rattle.std.proofs.lemmas.Bool.{cases_Bool, cases_eq}
 use Rattle.range_assembler.specs.declared.assembler.Entry.{Entry}
 use Rattle.range_assembler.specs.declared.assembler.Hold.{Hold}
 use Rattle.range_assembler.specs.declared.assembler.Hold.TheVariants.{Free, Held, Accepted}
@@ -10,9 +11,8 @@ use Rattle.range_assembler.specs.declared.sequence.Range.{Range}
 use Rattle.range_assembler.specs.Entries.{is_taken, is_accepted}
 use Rattle.range_assembler.specs.Before.{IsPlace}
 use Rattle.range_assembler.specs.Order.{IsOrder, range_of}
-use Rattle.range_assembler.specs.Sound.{IsSound}
-use Rattle.range_assembler.specs.Accepted.{IsPart, IsAmong, AreParts, IsKthPart, is_accepted_entry, is_accepted_at, kth_from}
-use Rattle.range_assembler.proofs.Places.{same_or_not}
+use Rattle.range_assembler.specs.Sound.{AreSoundRanges}
+use Rattle.range_assembler.specs.Accepted.{IsAmong, AreParts, IsKthPart, is_accepted_entry, is_accepted_at, front_of_file, kth_from}
 use Rattle.range_assembler.proofs.Scanning.{both}
 use Rattle.range_assembler.proofs.Ordering.{not_before, before_means, below_place, some_at, within, has_offset, shown_means, some_shown}
 
@@ -24,23 +24,31 @@ same_test a b same = grind (arith, nat_tests)
 other_test : (a b : ℕ) → a ≢ b → (a == b) ≡ false
 other_test a b other = grind (arith, nat_tests)
 
+nothing_at : (k : ℕ) → slice_get {X = ℕ} [] k ≡ None
+nothing_at zero = refl
+nothing_at (suc k) = refl
+
+front_stops : (file : ℕ) (range : Range) (ranges : List Range) → range.file ≢ file → front_of_file file (range ∷ ranges) ≡ []
+front_stops file range ranges other = take_while-cons (λ r. r.file == file) range ranges ∙ rw (other_test range.file file other) refl
+
+front_goes : (file : ℕ) (range : Range) (ranges : List Range) → range.file ≡ file → front_of_file file (range ∷ ranges) ≡ range ∷ front_of_file file ranges
+front_goes file range ranges same = take_while-cons (λ r. r.file == file) range ranges ∙ rw (same_test range.file file same) refl
+
 pub kth_other : (file : ℕ) (entries : List Entry) (range : Range) (ranges : List Range) (k : ℕ) → range.file ≢ file → kth_from file entries (range ∷ ranges) k ≡ None
-kth_other file entries range ranges zero other = rw (other_test range.file file other) refl
-kth_other file entries range ranges (suc k) other = rw (other_test range.file file other) refl
+kth_other file entries range ranges k other = rw (front_stops file range ranges other) (nothing_at k)
 
 pub kth_skip : (file : ℕ) (entries : List Entry) (range : Range) (ranges : List Range) (k : ℕ) → range.file ≡ file → is_accepted_at entries range.segment ≡ false → kth_from file entries (range ∷ ranges) k ≡ kth_from file entries ranges k
-kth_skip file entries range ranges zero same held = rw (same_test range.file file same, held) refl
-kth_skip file entries range ranges (suc k) same held = rw (same_test range.file file same, held) refl
+kth_skip file entries range ranges k same held = rw (front_goes file range ranges same, held) refl
 
 pub kth_hit : (file : ℕ) (entries : List Entry) (range : Range) (ranges : List Range) (k : ℕ) → range.file ≡ file → is_accepted_at entries range.segment ≡ true → k ≡ 0 → kth_from file entries (range ∷ ranges) k ≡ Some range.segment
-kth_hit file entries range ranges zero same accepted none = rw (same_test range.file file same, accepted) refl
+kth_hit file entries range ranges zero same accepted none = rw (front_goes file range ranges same, accepted) refl
 kth_hit file entries range ranges (suc k) same accepted none = absurd (omega (arith, none))
 
 pub kth_less : (file : ℕ) (entries : List Entry) (range : Range) (ranges : List Range) (k less : ℕ) → range.file ≡ file → is_accepted_at entries range.segment ≡ true → k ≡ suc less → kth_from file entries (range ∷ ranges) k ≡ kth_from file entries ranges less
 kth_less file entries range ranges zero less same accepted more = absurd (omega (arith, more))
 kth_less file entries range ranges (suc k) less same accepted more =
     let one : k ≡ less = omega (arith, more) in
-    rw (same_test range.file file same, accepted) (ap (kth_from file entries ranges) one)
+    rw (front_goes file range ranges same, accepted) (ap (kth_from file entries ranges) one)
 
 pub drop_at : (ranges : List Range) (at : ℕ) (range : Range) → slice_get ranges at ≡ Some range → drop at ranges ≡ range ∷ drop (suc at) ranges
 drop_at [] at range is = cc
@@ -52,10 +60,6 @@ drop_past [] zero past = refl
 drop_past [] (suc at) past = refl
 drop_past (first ∷ ranges) zero past = absurd (omega (arith, past))
 drop_past (first ∷ ranges) (suc at) past = drop_past ranges at (omega (arith, past))
-
-nothing_at : (k : ℕ) → slice_get {X = ℕ} [] k ≡ None
-nothing_at zero = refl
-nothing_at (suc k) = refl
 
 no_range_at : (k : ℕ) → slice_get {X = Range} [] k ≡ None
 no_range_at zero = refl
@@ -100,7 +104,7 @@ FilesRise ranges = (j k : ℕ) (one other : Range) → j < k → slice_get range
 
 kth_is : (file : ℕ) (entries : List Entry) (ranges : List Range) (k : ℕ) → AreFrom file ranges → FilesRise ranges → kth_from file entries ranges k ≡ slice_get (accepted_in file entries ranges) k
 kth_is file entries [] k from rise = sym (nothing_at k)
-kth_is file entries (range ∷ ranges) k from rise = elim (same_or_not range.file file) [
+kth_is file entries (range ∷ ranges) k from rise = elim (cases_eq range.file file) [
   | inl same ↦ elim (cases_Bool (is_accepted_at entries range.segment)) [
     | inl accepted ↦ here k same accepted (λ j. kth_is file entries ranges j behind rising)
     | inr held ↦ (let none : is_its file entries range ≡ false = rw (held, same_test range.file file same) refl in
@@ -266,7 +270,7 @@ get_drop (first ∷ ranges) (suc n) k (suc m) e = get_drop ranges n k m (omega (
 precedes_file : (ranges : List Range) (entries : List Entry) (j k : ℕ) (one other : Range) → IsOrder entries ranges → j < k → slice_get ranges j ≡ Some one → slice_get ranges k ≡ Some other → one.file ≤ other.file
 precedes_file ranges entries j k one other order low a b = elim (order.rising j k one other low a b) [ inl less ↦ omega (arith, less) | inr same ↦ (let e = same.0 in omega (arith, e)) ]
 
-pub kth_found : (entries : List Entry) (ranges : List Range) (file place k : ℕ) → IsSound entries → IsOrder entries ranges → IsPlace file 1 ranges place → IsKthPart file k entries (kth_from file entries (drop place ranges) k)
+pub kth_found : (entries : List Entry) (ranges : List Range) (file place k : ℕ) → AreSoundRanges entries → IsOrder entries ranges → IsPlace file 1 ranges place → IsKthPart file k entries (kth_from file entries (drop place ranges) k)
 kth_found entries ranges file place k sound order at = record {
   segments = accepted_in file entries ranges;
   are = parts_in file entries ranges order;

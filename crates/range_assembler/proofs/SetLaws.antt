@@ -2,13 +2,13 @@
 use Rattle.std.proofs.Common.{◌≡◌, ◌↔◌, ◌+◌, ◌<◌, ◌≤◌, inl, inr, zero, suc, ℕ, Bool, true, false, ◌&&◌, List, [], ◌∷◌, Option, Some, None, refl, ap, sym, subst, ◌∙◌, arith}
 use Rattle.std.specs.Prelude.{slice_get, cond, nat_le, ◌==◌, IsTrue}
 use Rattle.std.proofs.lemmas.Bool.Decides.{nat_tests}
+use Rattle.std.proofs.lemmas.Bool.{cases_eq}
 use Rattle.range_assembler.specs.declared.assembler.Entry.{Entry}
 use Rattle.range_assembler.specs.declared.assembler.Clash.{Clash}
 use Rattle.range_assembler.specs.Entries.{least_clash, lesser, clash_of, shares, is_taken, kept_size}
 use Rattle.range_assembler.specs.Missing.{is_covered, gaps, with_bare, is_nothing, is_known, is_complete, missing_in}
-use Rattle.range_assembler.specs.Sets.{Takes, ShareNothing, IsApart, NamesLeast, IsWhole}
-use Rattle.range_assembler.specs.Sound.{IsSound}
-use Rattle.range_assembler.proofs.Places.{same_or_not}
+use Rattle.range_assembler.specs.Sets.{Takes, ShareNothing, IsApart, NamesLeast, IsWholeFile}
+use Rattle.range_assembler.specs.Sound.{AreSoundRanges}
 use Rattle.range_assembler.proofs.Scanning.{both, no_clash}
 
 -- a range that has one of the offsets shares it
@@ -47,8 +47,8 @@ shared_means file first last entry is =
     let six : nat_le first last ≡ true = f.1 in
     record { its = grind (arith, nat_tests); taken = b.1; begins = grind (arith, nat_tests); ends = grind (arith, nat_tests); some = grind (arith, nat_tests); asked = grind (arith, nat_tests) }
 
-pub share_nothing : (entries : List Entry) → IsSound entries → ShareNothing entries
-share_nothing entries sound j k file offset entry other one two first second = elim (same_or_not j k) [
+pub share_nothing : (entries : List Entry) → AreSoundRanges entries → ShareNothing entries
+share_nothing entries sound j k file offset entry other one two first second = elim (cases_eq j k) [
   | inl same ↦ same
   | inr differ ↦ (let none : shares entry.file entry.first entry.last other ≡ false = sound.apart j k entry other differ one two first.taken in
       let some : shares entry.file entry.first entry.last other ≡ true = shared entry.file entry.first entry.last offset other (record { its = second.its ∙ sym first.its; taken = second.taken; low = second.low; high = second.high }) first.low first.high in
@@ -146,7 +146,7 @@ all_covered : (covered : ℕ → Bool) (offset count k : ℕ) → is_nothing (ga
 all_covered covered offset zero k none low high = absurd (omega arith)
 all_covered covered offset (suc count) k none low high =
     let parts = covered_here covered offset count (covered offset) refl none in
-    elim (same_or_not k offset) [
+    elim (cases_eq k offset) [
       | inl same ↦ ap covered same ∙ parts.0
       | inr other ↦ (let above : offset + 1 ≤ k = omega (arith, other) in all_covered covered (offset + 1) count k parts.1 above (omega arith))
     ]
@@ -155,15 +155,15 @@ nothing_left : (covered : ℕ → Bool) (offset count : ℕ) → ((k : ℕ) → 
 nothing_left covered offset zero all = refl
 nothing_left covered offset (suc count) all = let here : covered offset ≡ true = all offset (omega arith) (omega arith) in rw here (nothing_left covered (offset + 1) count (λ k low high. all k (omega arith) (omega arith)))
 
-whole_case : (file : ℕ) (entries : List Entry) (o : Option ℕ) → kept_size file entries ≡ o → (is_known o && is_nothing (missing_in file entries o)) ≡ true → IsWhole file entries
+whole_case : (file : ℕ) (entries : List Entry) (o : Option ℕ) → kept_size file entries ≡ o → (is_known o && is_nothing (missing_in file entries o)) ≡ true → IsWholeFile file entries
 whole_case file entries None known is = cc
 whole_case file entries (Some size) known is = record { size = size; known = known; covered = λ k low high. all_covered (is_covered file entries) 1 size k is low (omega arith) }
 
-pub whole_of : (file : ℕ) (entries : List Entry) → is_complete file entries ≡ true → IsWhole file entries
+pub whole_of : (file : ℕ) (entries : List Entry) → is_complete file entries ≡ true → IsWholeFile file entries
 whole_of file entries is = whole_case file entries (kept_size file entries) refl is
 
-pub of_whole : (file : ℕ) (entries : List Entry) → IsWhole file entries → is_complete file entries ≡ true
+pub of_whole : (file : ℕ) (entries : List Entry) → IsWholeFile file entries → is_complete file entries ≡ true
 of_whole file entries whole = rw whole.known (nothing_left (is_covered file entries) 1 whole.size (λ k low high. whole.covered k low (omega arith)))
 
-pub whole_or_not : (file : ℕ) (entries : List Entry) (b : Bool) → b ≡ is_complete file entries → IsTrue b ↔ IsWhole file entries
+pub whole_or_not : (file : ℕ) (entries : List Entry) (b : Bool) → b ≡ is_complete file entries → IsTrue b ↔ IsWholeFile file entries
 whole_or_not file entries b is = (λ t. whole_of file entries (sym is ∙ t), λ whole. is ∙ of_whole file entries whole)

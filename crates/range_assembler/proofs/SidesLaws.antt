@@ -1,9 +1,10 @@
 -- The sides of nodes, after a change.
 use Rattle.std.proofs.Common.{◌≡◌, ◌≤◌, inl, inr, zero, suc, ℕ, List, [], ◌∷◌, ◌++◌, Option, Some, None, length, ap, sym, subst, ◌∙◌, set}
 use Rattle.std.specs.Prelude.{slice_get, insert, remove}
+use Rattle.std.proofs.lemmas.Bool.{cases_eq}
 use Rattle.range_assembler.specs.declared.sequence.Range.{Range}
 use Rattle.range_assembler.specs.Sides.{HaveSides, AllSome}
-use Rattle.range_assembler.proofs.Places.{get-set_other, same_or_not}
+use Rattle.range_assembler.proofs.Places.{get-set_other}
 use Rattle.range_assembler.proofs.Changes.{stays, is_new, remains}
 
 set_read : {X : Type 0} (xs : List X) (i : ℕ) (x y : X) → slice_get (set xs i x) i ≡ Some y → x ≡ y
@@ -12,7 +13,7 @@ set_read (z ∷ xs) zero x y is = cc
 set_read (z ∷ xs) (suc i) x y is = set_read xs i x y is
 
 pub sides_insert : {X : Type 0} (sides : List (Option X)) (ranges : List Range) (p : ℕ) (range : Range) → HaveSides sides ranges → p ≤ length ranges → HaveSides (set sides range.segment None) (insert ranges p range)
-sides_insert sides ranges p range have low k is = elim (same_or_not k range.segment) [
+sides_insert sides ranges p range have low k is = elim (cases_eq k range.segment) [
   | inl same ↦ (let new = is_new ranges p range low in record { place = new.place; range = range; there = new.there; its = sym same })
   | inr other ↦ (let old = have k (sym (get-set_other sides range.segment k None other) ∙ is) in
       let listed = stays ranges p range old.place old.range old.there in
@@ -20,7 +21,7 @@ sides_insert sides ranges p range have low k is = elim (same_or_not k range.segm
 ]
 
 pub sides_remove : {X : Type 0} (sides : List (Option X)) (ranges : List Range) (p : ℕ) (range : Range) (side : X) → HaveSides sides ranges → slice_get ranges p ≡ Some range → HaveSides (set sides range.segment (Some side)) (remove ranges p)
-sides_remove sides ranges p range side have here k is = elim (same_or_not k range.segment) [
+sides_remove sides ranges p range side have here k is = elim (cases_eq k range.segment) [
   | inl same ↦ (let there : slice_get (set sides range.segment (Some side)) range.segment ≡ Some None = subst (λ n. slice_get (set sides range.segment (Some side)) n ≡ Some None) same is in
       let no_way : Some side ≡ None = set_read sides range.segment (Some side) None there in cc)
   | inr other ↦ (let old = have k (sym (get-set_other sides range.segment k (Some side) other) ∙ is) in

@@ -2,12 +2,11 @@
 use Rattle.std.proofs.Common.{◌≡◌, ◌+◌, ◌-◌, ◌<◌, ◌≤◌, ◌⊎◌, inl, inr, zero, suc, ℕ, Bool, true, false, ◌&&◌, List, [], Option, Some, None, refl, ap, sym, subst, ◌∙◌, arith}
 use Rattle.std.specs.Prelude.{slice_get, cond, nat_le, ◌==◌}
 use Rattle.std.proofs.lemmas.Bool.Decides.{nat_tests}
-use Rattle.std.proofs.lemmas.Bool.{cases_lt}
+use Rattle.std.proofs.lemmas.Bool.{cases_lt, cases_eq}
 use Rattle.range_assembler.specs.declared.sequence.Range.{Range}
 use Rattle.range_assembler.specs.Bare.{IsGaps, gap_upto}
 use Rattle.range_assembler.specs.Missing.{gaps}
 use Rattle.range_assembler.proofs.Gaps.{gaps_run, step_run, step_bare, step_tail}
-use Rattle.range_assembler.proofs.Places.{same_or_not}
 use Rattle.range_assembler.proofs.Ordering.{some_at, within}
 
 -- what is bare, told by a test
@@ -45,7 +44,7 @@ covered_else covered files ranges file place offset k are from its one low high 
           | inl d ↦ absurd (omega (arith, c, d))
           | inr d ↦ absurd (omega (arith, b, d.1, low))
         ]
-        | inr more ↦ elim (same_or_not found.place place) [
+        | inr more ↦ elim (cases_eq found.place place) [
           | inl same ↦ (let e = before found.range (ap (λ n. slice_get ranges n) (sym same) ∙ found.there) c in absurd (omega (arith, a, e)))
           | inr other ↦ (let up : place < found.place = omega (arith, more, other) in
               let w = within ranges found.place found.range found.there in
@@ -68,7 +67,7 @@ covered_else covered files ranges file place offset k are from its one low high 
 -- behind the gap of a file at a place
 from_next : (covered : ℕ → ℕ → Bool) (files : ℕ) (ranges : List Range) (file place offset : ℕ) (gap : Range) → IsGaps (Tells covered) files ranges → IsFrom file offset place ranges → slice_get ranges place ≡ Some gap → gap.file ≡ file → offset ≤ gap.first → IsFrom file (gap.last + 1) (place + 1) ranges
 from_next covered files ranges file place offset gap are from there its low = record {
-  below = λ k range less is. elim (same_or_not k place) [
+  below = λ k range less is. elim (cases_eq k place) [
     | inl same ↦ (let one : Some gap ≡ Some range = sym there ∙ ap (λ n. slice_get ranges n) (sym same) ∙ is in
         let e : gap ≡ range = cc in
         let f : range.file ≡ file = ap (λ (r : Range). r.file) (sym e) ∙ its in
@@ -98,7 +97,7 @@ ends_covered covered files ranges file place gap are there its high = elim (true
           | inl d ↦ absurd (omega (arith, c, d, its))
           | inr d ↦ (let h = d.1 in absurd (omega (arith, h, b, s)))
         ]
-        | inr more ↦ elim (same_or_not found.place place) [
+        | inr more ↦ elim (cases_eq found.place place) [
           | inl same ↦ (let one : Some gap ≡ Some found.range = sym there ∙ ap (λ n. slice_get ranges n) (sym same) ∙ found.there in
               let e : gap ≡ found.range = cc in
               let h : gap.last ≡ found.range.last = ap (λ (r : Range). r.last) e in absurd (omega (arith, h, b)))
@@ -167,7 +166,7 @@ to_gap_case covered files ranges file place offset size gap are from there same 
     ∙ ap (λ n. gaps (covered file) n ((size + 1) - n)) back
 
 equal_or_less : (m n : ℕ) → m ≤ n → (m ≡ n) ⊎ (m < n)
-equal_or_less m n low = elim (same_or_not m n) [ inl same ↦ inl same | inr other ↦ (let less : m < n = omega (arith, low, other) in inr less) ]
+equal_or_less m n low = elim (cases_eq m n) [ inl same ↦ inl same | inr other ↦ (let less : m < n = omega (arith, low, other) in inr less) ]
 
 -- the gap at the place, and what follows
 at_gap : (covered : ℕ → ℕ → Bool) (files : ℕ) (ranges : List Range) (file place offset size k : ℕ) (gap : Range) → IsGaps (Tells covered) files ranges → IsFrom file offset place ranges → slice_get ranges place ≡ Some gap → gap.file ≡ file → file < files → offset ≤ gap.first → gap.first ≤ size → size ≤ 18446744073709551615 → ((j : ℕ) → k ≡ suc j → gap.last < size → slice_get (gaps (covered file) (gap.last + 1) ((size + 1) - (gap.last + 1))) j ≡ gap_upto file size (slice_get ranges ((place + 1) + j))) → (gap.last < size) ⊎ (size ≤ gap.last) → slice_get (gaps (covered file) gap.first ((size + 1) - gap.first)) k ≡ gap_upto file size (slice_get ranges (place + k))

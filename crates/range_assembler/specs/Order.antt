@@ -4,7 +4,7 @@ use Rattle.range_assembler.specs.declared.assembler.Entry.{Entry}
 use Rattle.range_assembler.specs.declared.assembler.Clash.{Clash}
 use Rattle.range_assembler.specs.declared.sequence.Range.{Range}
 use Rattle.range_assembler.specs.Entries.{is_taken, kept_size}
-use Rattle.range_assembler.specs.Sound.{IsSound}
+use Rattle.range_assembler.specs.Sound.{AreSoundRanges}
 
 -- a range of an earlier file, or one that ends before the other begins
 abbrev pub Precedes : Range → Range → Type 0
@@ -21,21 +21,21 @@ abbrev pub count_shown : List Entry → ℕ
 count_shown [] = 0
 count_shown (entry ∷ entries) = if is_shown entry then suc (count_shown entries) else count_shown entries
 
-pub record Stands (entries : List Entry) (range : Range) : Type 0 where
+pub record IsOfEntry (entries : List Entry) (range : Range) : Type 0 where
   pub entry : Entry
   pub there : slice_get entries range.segment ≡ Some entry
   pub shown : is_shown entry ≡ true
   pub same : range ≡ range_of range.segment entry
 
-pub record IsListed (ranges : List Range) (range : Range) : Type 0 where
+pub record IsAmongRanges (ranges : List Range) (range : Range) : Type 0 where
   pub place : ℕ
   pub there : slice_get ranges place ≡ Some range
 
 -- the ranges that are held or accepted and not empty, in order
 pub record IsOrder (entries : List Entry) (ranges : List Range) : Type 0 where
   pub rising : (j k : ℕ) (one other : Range) → j < k → slice_get ranges j ≡ Some one → slice_get ranges k ≡ Some other → Precedes one other
-  pub sound : (k : ℕ) (range : Range) → slice_get ranges k ≡ Some range → Stands entries range
-  pub whole : (segment : ℕ) (entry : Entry) → slice_get entries segment ≡ Some entry → is_shown entry ≡ true → IsListed ranges (range_of segment entry)
+  pub sound : (k : ℕ) (range : Range) → slice_get ranges k ≡ Some range → IsOfEntry entries range
+  pub whole : (segment : ℕ) (entry : Entry) → slice_get entries segment ≡ Some entry → is_shown entry ≡ true → IsAmongRanges ranges (range_of segment entry)
 
 -- the clash with this range, if it shares an offset
 abbrev pub clash_with : ℕ → ℕ → ℕ → Option Range → Option Clash
@@ -61,7 +61,7 @@ size_read None = None
 
 -- the order, the number of segments that it has room for, and the sizes of the files are those of the entries
 pub record IsIndexed (entries : List Entry) (order : List Range × ℕ) (sizes : List (Option ℕ)) : Type 0 where
-  pub sound : IsSound entries
+  pub sound : AreSoundRanges entries
   pub ordered : IsOrder entries order.0
   pub many : length order.0 ≡ count_shown entries
   pub sides : order.1 ≡ length entries

@@ -33,7 +33,7 @@ pub record NamesLeast (file first last : ℕ) (entries : List Entry) (clash : Cl
   pub least : (k shared : ℕ) (other : Entry) → slice_get entries k ≡ Some other → first ≤ shared → shared ≤ last → Takes file shared other → clash.first ≤ other.first
 
 -- the size of the file is known, and each offset up to it is in an accepted range
-pub record IsWhole (file : ℕ) (entries : List Entry) : Type 0 where
+pub record IsWholeFile (file : ℕ) (entries : List Entry) : Type 0 where
   pub size : ℕ
   pub known : kept_size file entries ≡ Some size
   pub covered : (offset : ℕ) → 1 ≤ offset → offset ≤ size → is_covered file entries offset ≡ true

@@ -4,10 +4,10 @@ ghost use Rattle.range_assembler.specs.Entries.{entries_of, least_clash, kept_si
 ghost use Rattle.range_assembler.specs.Claims.{file_at, last_at, claim_answer, other_size, accept_answer, is_free_at, is_held_at};
 ghost use Rattle.range_assembler.specs.Missing.{missing_of, is_complete};
 ghost use Rattle.range_assembler.specs.Accepted.{IsKthPart};
-ghost use Rattle.range_assembler.specs.Sets.{ShareNothing, IsApart, NamesLeast, IsWhole};
+ghost use Rattle.range_assembler.specs.Sets.{ShareNothing, IsApart, NamesLeast, IsWholeFile};
 ghost use Rattle.range_assembler.specs.Bare.{first_gaps};
 ghost use Rattle.range_assembler.specs.Order.{size_read};
-ghost use Rattle.range_assembler.specs.Sound.{IsSound};
+ghost use Rattle.range_assembler.specs.Sound.{AreSoundRanges};
 ghost use Rattle.limits.specs.declared.TheConstants.{MOST_FILES, MOST_FILE_BYTES, MOST_SEGMENTS};
 
 use crate::accepted::kth_from;
@@ -207,7 +207,7 @@ impl Assembler {
     /// The size of the accepted parts of a file, or nothing where none of its parts is accepted.
     pub fn size(&self, file: u32) -> Option<u64>
         ensures size { result ≡ kept_size file self.now }
-        ensures sound { IsSound self.now }
+        ensures sound { AreSoundRanges self.now }
         ensures disjoint { ShareNothing self.now }
     {
         size_at(&self.sizes, file)
@@ -216,7 +216,7 @@ impl Assembler {
     /// Whether a part of a file is accepted, and each offset from 1 to the size is in an accepted range.
     pub fn complete(&self, file: u32) -> bool
         ensures answer { result ≡ is_complete file self.now }
-        ensures whole { IsTrue result ↔ IsWhole file self.now }
+        ensures whole { IsTrue result ↔ IsWholeFile file self.now }
     {
         self.is_whole(file)
     }

@@ -1,80 +1,37 @@
-// Files that are not what their opening says.
+// A file that is not what its opening says.
 ghost use Rattle.std.specs.Prelude.{None};
 
 use io_traits::{Failed, Input};
 
-/// A file that has fewer bytes than its opening says.
+/// A file that has bytes at some places of its length alone: a read elsewhere gives none.
 #[derive(Drop)]
-pub struct ShrunkInput {
-    said: u64,
-    has: u64,
-    open_len: Option<u64>,
-    shorts: u64,
-    short_place: u64,
-}
-
-impl ShrunkInput {
-    /// A file of which the opening says so many bytes, and which has so many.
-    pub fn new(said: u64, has: u64) -> Self {
-        ShrunkInput {
-            said,
-            has,
-            open_len: None,
-            shorts: 0,
-            short_place: 0,
-        }
-    }
-}
-
-impl Input for ShrunkInput {
-    ghost faults = { λ s. 0 };
-
-    ghost shorts = { λ s. s.shorts };
-
-    ghost short_place = { λ s. s.short_place };
-
-    ghost current = { λ s. s.open_len };
-
-    ghost content = { λ s. None };
-
-    ghost files = { λ s. None };
-
-    ghost blame = { λ s. None };
-
-    fn open(&mut self, _name: &str) -> Result<u64, Failed> {
-        self.open_len = Some(self.said);
-        Ok(self.said)
-    }
-
-    fn read_at(&mut self, pos: u64, buf: &mut [u8]) -> Result<usize, Failed> {
-        if pos < self.has {
-            buf[0] = b'x';
-            return Ok(1);
-        }
-        self.shorts = self.shorts.saturating_add(1);
-        self.short_place = pos;
-        Ok(0)
-    }
-}
-
-/// A file of a great length, of which bytes can be read at some places alone: a read elsewhere gives none.
-#[derive(Drop)]
-pub struct SparseInput {
+pub struct PartialInput {
     size: u64,
     from: u64,
     to: u64,
+    gives_one: bool,
     open_len: Option<u64>,
     shorts: u64,
     short_place: u64,
 }
 
-impl SparseInput {
+impl PartialInput {
+    /// A file of which the opening says so many bytes, and which has so many. A read gives one of them.
+    pub fn shrunk(said: u64, has: u64) -> Self {
+        PartialInput::new(said, 0, has, true)
+    }
+
     /// A file of this length, of which the bytes from one place up to another can be read.
-    pub fn new(size: u64, from: u64, to: u64) -> Self {
-        SparseInput {
+    pub fn sparse(size: u64, from: u64, to: u64) -> Self {
+        PartialInput::new(size, from, to, false)
+    }
+
+    fn new(size: u64, from: u64, to: u64, gives_one: bool) -> Self {
+        PartialInput {
             size,
             from,
             to,
+            gives_one,
             open_len: None,
             shorts: 0,
             short_place: 0,
@@ -82,7 +39,7 @@ impl SparseInput {
     }
 }
 
-impl Input for SparseInput {
+impl Input for PartialInput {
     ghost faults = { λ s. 0 };
 
     ghost shorts = { λ s. s.shorts };
@@ -103,11 +60,15 @@ impl Input for SparseInput {
     }
 
     fn read_at(&mut self, pos: u64, buf: &mut [u8]) -> Result<usize, Failed> {
-        if self.from <= pos && pos < self.to {
-            return Ok(buf.len().min((self.to - pos) as usize));
+        if pos < self.from || self.to <= pos {
+            self.shorts = self.shorts.saturating_add(1);
+            self.short_place = pos;
+            return Ok(0);
         }
-        self.shorts = self.shorts.saturating_add(1);
-        self.short_place = pos;
-        Ok(0)
+        buf[0] = b'x';
+        if self.gives_one {
+            return Ok(1);
+        }
+        Ok(buf.len().min((self.to - pos) as usize))
     }
 }

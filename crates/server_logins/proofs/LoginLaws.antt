@@ -10,7 +10,7 @@ use Rattle.std.proofs.lemmas.Option.{get_or_from_slice_get}
 use Rattle.std.proofs.lemmas.Slice.Eq.{bytes_eq-Decides}
 use Rattle.nntp_lines.specs.declared.login.Login.{Login}
 use Rattle.server_logins.specs.LoginLine.{IsServerLogin, login_line_of, login_text}
-use Rattle.server_logins.specs.Logins.{AddsLine, AreDistinct, AreLogins, FindsLogin, IsFirstBroken, IsRefusedFor, LoginsAreOne, LoginsOrBroken, is_filled, login_in, servers_of, with_line, with_new, with_said}
+use Rattle.server_logins.specs.Logins.{AddsLine, AreDistinct, AreLogins, FindsLogin, IsFirstBroken, AreNoLogins, LoginsAreOne, LoginsOrBroken, is_filled, login_in, servers_of, with_line, with_new, with_said}
 use Rattle.server_logins.specs.declared.logins.LoginError.{LoginError}
 use Rattle.server_logins.specs.declared.logins.LoginError.TheVariants as errors
 use Rattle.server_logins.specs.declared.logins.ServerLogin.{ServerLogin}
@@ -201,7 +201,7 @@ pub line_kept : (lines : List (List ℕ)) (i : ℕ) (logins more : List ServerLo
 line_kept lines i logins more line number lt are there adds = keeps lines i logins more lt are (ap (with_line logins) (get_or_from_slice_get lines i line [] there) ∙ adds)
 
 pub line_refused : (lines : List (List ℕ)) (i : ℕ) (logins now : List ServerLogin) (line : List ℕ) (error : LoginError) → i < length lines → AreLogins (take i lines) logins → slice_get lines i ≡ Some line
-    → AddsLine logins line (i + 1) now (Err error) → IsRefusedFor lines error
+    → AddsLine logins line (i + 1) now (Err error) → AreNoLogins lines error
 line_refused lines i logins now line errors.Memory lt are there adds = tt
 line_refused lines i logins now line (errors.Broken place) lt are there adds =
     subst (λ n. IsFirstBroken lines n) (sym adds.0) (refuses lines i logins lt are (ap (with_line logins) (get_or_from_slice_get lines i line [] there) ∙ adds.1))

@@ -33,9 +33,9 @@ pub record IsFirstBroken (lines : List (List ℕ)) (number : ℕ) : Type 0 where
   pub broken : (logins : List ServerLogin) → ¬ AreLogins (take number lines) logins
 
 -- what lines are refused for; want of memory says nothing of them
-abbrev pub IsRefusedFor : List (List ℕ) → LoginError → Type 0
-IsRefusedFor lines errors.Memory = Unit {0}
-IsRefusedFor lines (errors.Broken number) = IsFirstBroken lines number
+abbrev pub AreNoLogins : List (List ℕ) → LoginError → Type 0
+AreNoLogins lines errors.Memory = Unit {0}
+AreNoLogins lines (errors.Broken number) = IsFirstBroken lines number
 
 -- the login at a server, among these logins; nothing where none of them is there
 abbrev pub FindsLogin : List ServerLogin → List ℕ → Option Login → Type 0

@@ -1,7 +1,7 @@
 // The logins of a file.
 ghost use Rattle.std.specs.Prelude.{◌≡◌, [], MatchResult};
 ghost use Rattle.std.specs.Option.{option_copied};
-ghost use Rattle.server_logins.specs.Logins.{AddsLine, AreLogins, FindsLogin, IsRefusedFor, login_in};
+ghost use Rattle.server_logins.specs.Logins.{AddsLine, AreLogins, FindsLogin, AreNoLogins, login_in};
 ghost use Rattle.lists.specs.Text.{text_lines};
 
 use crate::line::read_line;
@@ -84,7 +84,7 @@ impl Logins {
 /// between, where the user and the password are 1 to 200 printable ASCII characters without a space, and no line has the
 /// server of an earlier one. The first line that breaks a rule is told.
 pub fn read_logins(alloc: Global, text: &[u8]) -> Result<Logins, LoginError>
-    ensures { MatchResult result (AreLogins (text_lines text.now)) (IsRefusedFor (text_lines text.now)) }
+    ensures { MatchResult result (AreLogins (text_lines text.now)) (AreNoLogins (text_lines text.now)) }
 {
     match split_text(alloc, text) {
         Ok(lines) => read_lines(alloc, &lines),
@@ -93,7 +93,7 @@ pub fn read_logins(alloc: Global, text: &[u8]) -> Result<Logins, LoginError>
 }
 
 fn read_lines(alloc: Global, lines: &Lines) -> Result<Logins, LoginError>
-    ensures { MatchResult result (AreLogins lines.now) (IsRefusedFor lines.now) }
+    ensures { MatchResult result (AreLogins lines.now) (AreNoLogins lines.now) }
 {
     let mut logins = Logins {
         entries: List::new(alloc),

@@ -5,6 +5,7 @@ use crate::explain::{explain_fault, explain_memory, explain_words, hint, wants_h
 use crate::help::Page;
 use command_words::refused_word;
 use lists::Memory;
+use run_ends::{End, LineBuffer, status, write_line};
 use std::env::{Env, FillError};
 use std::io::ErrorKind;
 use std::time::{SystemTime, UNIX_EPOCH};
@@ -30,12 +31,22 @@ fn all_words(rt: &HostRuntime) -> io::Result<Vec<String>> {
     Ok(words)
 }
 
+// Says the line of an end that comes before the top call, or in place of it, and answers its status.
+fn say_end(rt: &HostRuntime, end: End) -> u8 {
+    let mut line: LineBuffer = [0; 160];
+    let len = write_line(&end, &mut line);
+    let _ = rt
+        .stderr()
+        .print(str::from_utf8(&line[..len]).unwrap_or(""));
+    status(&end)
+}
+
 fn say_no_memory(rt: &HostRuntime) -> u8 {
-    let _ = rt.stderr().println("usebin: no memory");
+    let status = say_end(rt, End::NoMemory);
     if wants_hints(rt) {
         explain_memory(rt);
     }
-    7
+    status
 }
 
 // Names the first refused word where one is no text. All words are judged, since a name that is given later changes what a
@@ -45,7 +56,7 @@ fn refuse_not_text(rt: &HostRuntime) -> u8 {
         return say_no_memory(rt);
     };
     let refused = refused_word(&words).unwrap_or(not_text).min(not_text);
-    let _ = rt.stderr().println(format_args!("usebin: words {refused}"));
+    let status = say_end(rt, End::WordsRefused(refused));
     if wants_hints(rt) {
         if refused < not_text {
             explain_words(rt, &words);
@@ -53,7 +64,7 @@ fn refuse_not_text(rt: &HostRuntime) -> u8 {
             hint(rt, "that word is not UTF-8 text");
         }
     }
-    2
+    status
 }
 
 // The words, one that is not UTF-8 standing as an empty one, and the number of the first such word.
@@ -113,11 +124,11 @@ pub(crate) fn print_help(rt: &HostRuntime, page: &Page) -> u8 {
 
 /// Says that standard output failed, and why, and answers the status.
 pub(crate) fn say_output_fault(rt: &HostRuntime, reason: &io::Error) -> u8 {
-    let _ = rt.stderr().println("usebin: output fault");
+    let status = say_end(rt, End::OutputFault);
     if wants_hints(rt) {
         explain_fault(rt, "standard output", Some(reason));
     }
-    4
+    status
 }
 
 /// The word behind a key, where the key stands among the words.

@@ -3,6 +3,7 @@
 use crate::help::{COMMAND_LIST, CommandHelp, command_help};
 use crate::meaning::meaning_of;
 use command_words::refused_word;
+use run_ends::read_line;
 use std::env::Env;
 use std::fmt::Display;
 use std::fs::File;
@@ -37,9 +38,12 @@ pub(crate) fn explain_fault(
     }
 }
 
-/// Says what the line of a status means.
-pub(crate) fn explain_line(rt: &HostRuntime, line: &str) {
-    if let Some(meaning) = meaning_of(line) {
+/// Says what the end means whose line this is.
+pub(crate) fn explain_end(rt: &HostRuntime, line: &[u8]) {
+    let Some(end) = read_line(line) else {
+        return;
+    };
+    if let Some(meaning) = meaning_of(&end) {
         hint(rt, meaning);
     }
 }

@@ -2,10 +2,8 @@
 
 use io_system::ErrSink;
 use io_traits::{Failed, Sink};
+use run_ends::LineBuffer;
 use std::os::fd::AsRawFd;
-
-// The longest line that is kept. No line of a status is longer.
-const LONGEST: usize = 256;
 
 /// Standard error. The line that was said last is kept, to be explained.
 #[derive(Drop)]
@@ -15,10 +13,10 @@ pub(crate) struct LastLine<R: Print + AsRawFd + Drop> {
     has_failed: bool,
 }
 
-// A line, as far as it came.
+// A line with its end, as far as it came and has room. The line of each end has.
 #[derive(Clone, Copy)]
 struct KeptLine {
-    bytes: [u8; LONGEST],
+    bytes: LineBuffer,
     len: usize,
     // Whether the next byte begins another line.
     is_ended: bool,
@@ -30,7 +28,7 @@ impl<R: Print + AsRawFd + Drop> LastLine<R> {
         LastLine {
             sink,
             kept: KeptLine {
-                bytes: [0; LONGEST],
+                bytes: [0; 160],
                 len: 0,
                 is_ended: true,
             },
@@ -38,12 +36,12 @@ impl<R: Print + AsRawFd + Drop> LastLine<R> {
         }
     }
 
-    /// The line that was said last, without its end, or `None` where a write failed.
-    pub(crate) fn line(&self) -> Option<&str> {
+    /// The line that was said last, with its end, or `None` where a write failed.
+    pub(crate) fn line(&self) -> Option<&[u8]> {
         if self.has_failed {
             return None;
         }
-        str::from_utf8(self.kept.bytes.get(..self.kept.len)?).ok()
+        self.kept.bytes.get(..self.kept.len)
     }
 }
 
@@ -62,7 +60,8 @@ impl KeptLine {
         }
         if byte == b'\n' {
             self.is_ended = true;
-        } else if self.len < LONGEST {
+        }
+        if self.len < self.bytes.len() {
             self.bytes[self.len] = byte;
             self.len += 1;
         }

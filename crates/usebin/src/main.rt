@@ -10,7 +10,7 @@ mod meaning;
 mod named_input;
 
 use edge::{command_line, moment_of, print_help, say_output_fault, value_of};
-use explain::{explain_fault, explain_line, explain_memory, explain_words, wants_hints};
+use explain::{explain_end, explain_fault, explain_memory, explain_words, wants_hints};
 use held::hold_closed_streams;
 use help::help_for;
 use io_system::{ErrSink, OutSink, TcpLinks};
@@ -74,7 +74,7 @@ fn run(rt: &HostRuntime, words: &[String]) -> u8 {
             links.reason(),
         ),
         7 => explain_memory(rt),
-        _ => explain_line(rt, line),
+        _ => explain_end(rt, line),
     }
     status
 }

@@ -1,42 +1,38 @@
--- An index, step by step: what was told of it, and the line of its end.
-use Rattle.std.proofs.Common.{ℕ, List, ◌++◌, Bool, true, false, Option, Ok, inr}
+-- An index, step by step.
+use Rattle.std.proofs.Common.{ℕ, List, Option, Ok, refl, inl, inr}
+use Rattle.command_words.specs.CommandLine.Words.{Asks}
+use Rattle.command_words.specs.CommandLine.Command.{Index as AsksIndex}
 use Rattle.command_words.specs.Index.{IndexAsked}
 use Rattle.input_files.specs.Reading.{Reading}
+use Rattle.nzb_index.specs.Canonical.{nzb_text}
 use Rattle.overview_index.specs.declared.session.Indexed.{Indexed}
-use Rattle.nzb_index.specs.Canonical.{IsValidIndex}
-use Rattle.usebin_cli.specs.Index.{GotAndFault, HasRun, fault_line, IndexEnds, IndexFails, IndexSays, SaysIndexEnd, TellsIndexed, WroteIndexed, skipped_line}
-use Rattle.usebin_cli.specs.Linked.{Linked}
-use Rattle.usebin_cli.specs.Writing.{Written, Got, Told}
-use Rattle.usebin_cli.specs.declared.index.IndexEnd.{IndexEnd}
-use Rattle.usebin_cli.specs.declared.index.IndexEnd.TheVariants.{Done, Memory, NoLogin, NoLink, Limit, Refused, Over, OutputFault}
-use Rattle.usebin_cli.proofs.SaidSteps.{between, front_more, nothing_then, then_nothing, told_got}
-use Rattle.usebin_cli.proofs.TopLemmas.{got_both}
+use Rattle.run_ends.specs.declared.end.End.{End}
+use Rattle.run_ends.specs.declared.end.End.TheVariants.{Done, InputFault, Short, Limit as Passes, LoginBroken, NoMemory}
+use Rattle.run_ends.specs.declared.end.Limit.TheVariants as limits
+use Rattle.usebin_cli.specs.Index.{HasRun, Indexes, skipped_line}
+use Rattle.usebin_cli.specs.Linked.{Linked, OpenedNone}
+use Rattle.usebin_cli.specs.Login.{LoginFails}
+use Rattle.usebin_cli.specs.Steps.{Runs, Stops, TellsIndexed}
+use Rattle.usebin_cli.specs.Writing.{Written}
+use Rattle.usebin_cli.specs.declared.ended.Ended.{Ended}
+use Rattle.usebin_cli.proofs.EndLaws.{nothing_noted, wrote_behind}
 
--- what was told of an index that was made
-pub indexed_ends : (asked : IndexAsked) (files : Option (List (List ℕ × List ℕ))) (r : Reading) (t : Linked) (w e : Written) (indexed : Indexed) (end : IndexEnd) →
-    HasRun asked files r t (Ok indexed) → TellsIndexed indexed w e end → IndexEnds asked files r t w e end
-indexed_ends asked files r t w e indexed (Done told) run tells = record { indexed = indexed; run = run; written = tells.0; said = tells.1 }
-indexed_ends asked files r t w e indexed (OutputFault told) run tells = record { indexed = indexed; run = run; written = tells.0; said = tells.1 }
-indexed_ends asked files r t w e indexed Memory run tells = ((run.faultless, inr (Ok indexed, run)), tells.0, tells.1)
-indexed_ends asked files r t w e indexed (NoLogin end) run tells = absurd tells
-indexed_ends asked files r t w e indexed NoLink run tells = absurd tells
-indexed_ends asked files r t w e indexed (Limit limit) run tells = absurd tells
-indexed_ends asked files r t w e indexed (Refused code) run tells = absurd tells
-indexed_ends asked files r t w e indexed (Over reason) run tells = absurd tells
+-- no login was found, and no link was opened
+pub no_login : (asked : IndexAsked) (files : Option (List (List ℕ × List ℕ))) (r : Reading) (t : Linked) (end : End) → LoginFails asked.login files r end → OpenedNone t → Stops (Asks (AsksIndex asked)) (Indexes asked files r t) r end
+no_login asked files r t NoMemory fails none = λ w silent. (record { may = tt; read = fails.0; kept = tt; wrote = silent; noted = refl }, inl none)
+no_login asked files r t InputFault fails none = λ w silent. (record { may = tt; read = (fails.0.faults, fails.0.shorts); kept = tt; wrote = silent; noted = refl }, (fails.0, none))
+no_login asked files r t (Short place) fails none = λ w silent. (record { may = tt; read = fails.0; kept = tt; wrote = silent; noted = refl }, (fails.2, none))
+no_login asked files r t (Passes limits.Login) fails none = λ w silent. (record { may = tt; read = fails.0; kept = tt; wrote = silent; noted = refl }, (fails.1, none))
+no_login asked files r t (LoginBroken number) fails none = λ w silent. (record { may = tt; read = fails.0; kept = tt; wrote = silent; noted = refl }, (fails.2, none))
+no_login asked files r t other fails none = absurd fails
 
--- that line behind a text, or nothing where a write failed before
-fault_behind : (told : Bool) (text : List ℕ) (f0 f1 f2 : ℕ) (t0 t1 t2 : Option (List ℕ)) → Told told text (between f0 f1 t0 t1) → SaysIndexEnd (OutputFault told) (between f1 f2 t1 t2) → GotAndFault text (between f0 f2 t0 t2)
-fault_behind true text f0 f1 f2 t0 t1 t2 first said = got_both text fault_line f0 f1 f2 t0 t1 t2 first said
-fault_behind false text f0 f1 f2 t0 t1 t2 first said = front_more text fault_line f0 f1 f2 t0 t1 t2 first said
-
--- the whole run: what it did, and what it said of its end
-pub says_index : (asked : IndexAsked) (files : Option (List (List ℕ × List ℕ))) (r : Reading) (t : Linked) (w : Written) (f0 f1 f2 : ℕ) (t0 t1 t2 : Option (List ℕ)) (end : IndexEnd) →
-    IndexEnds asked files r t w (between f0 f1 t0 t1) end → SaysIndexEnd end (between f1 f2 t1 t2) → IndexSays asked files r t w (between f0 f2 t0 t2) end
-says_index asked files r t w f0 f1 f2 t0 t1 t2 (Done told) ends said = record { indexed = ends.indexed; run = ends.run; written = ends.written; said = then_nothing _ f0 f1 f2 t0 t1 t2 (told_got told _ _ ends.said) said }
-says_index asked files r t w f0 f1 f2 t0 t1 t2 (OutputFault told) ends said = record { indexed = ends.indexed; run = ends.run; written = ends.written; said = fault_behind told _ f0 f1 f2 t0 t1 t2 ends.said said }
-says_index asked files r t w f0 f1 f2 t0 t1 t2 Memory ends said = (ends.0, ends.1, nothing_then _ f0 f1 f2 t0 t1 t2 ends.2 said)
-says_index asked files r t w f0 f1 f2 t0 t1 t2 NoLink ends said = (ends.0, ends.1, nothing_then _ f0 f1 f2 t0 t1 t2 ends.2 said)
-says_index asked files r t w f0 f1 f2 t0 t1 t2 (NoLogin end) ends said = (ends.0, ends.1, nothing_then _ f0 f1 f2 t0 t1 t2 ends.2 said)
-says_index asked files r t w f0 f1 f2 t0 t1 t2 (Limit limit) ends said = (ends.0, ends.1, nothing_then _ f0 f1 f2 t0 t1 t2 ends.2 said)
-says_index asked files r t w f0 f1 f2 t0 t1 t2 (Refused code) ends said = (ends.0, ends.1, nothing_then _ f0 f1 f2 t0 t1 t2 ends.2 said)
-says_index asked files r t w f0 f1 f2 t0 t1 t2 (Over reason) ends said = (ends.0, ends.1, nothing_then _ f0 f1 f2 t0 t1 t2 ends.2 said)
+-- what was skipped was noted, and the index written, or not for want of memory
+pub indexed : (asked : IndexAsked) (files : Option (List (List ℕ × List ℕ))) (r : Reading) (t : Linked) (w e : Written) (made : Indexed) (ended : Ended) → HasRun asked files r t (Ok made) → TellsIndexed made w e ended →
+    Runs (Asks (AsksIndex asked)) (Indexes asked files r t) r w e ended
+indexed asked files r t w e made ended run (inl x) =
+    nothing_noted (Asks (AsksIndex asked)) (Indexes asked files r t) r w e NoMemory ended x.0 x.1 x.3
+    (record { may = tt; read = run.faultless; kept = tt; wrote = x.2; noted = refl }) (inr (Ok made, run))
+indexed asked files r t w e made ended run (inr x) =
+    wrote_behind (Asks (AsksIndex asked)) (Indexes asked files r t) r w e (skipped_line made.skipped) (nzb_text made.index) Done ended x
+    (λ wrote. (record { may = tt; read = run.faultless; kept = tt; wrote = wrote.faults; noted = tt }, record { indexed = made; run = run; written = wrote; noted = refl }))
+    (λ wrote. (record { may = tt; read = run.faultless; kept = tt; wrote = wrote.faults; noted = tt }, record { indexed = made; run = run; written = wrote; noted = refl }))

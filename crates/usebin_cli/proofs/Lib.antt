@@ -1,15 +1,13 @@
 pub mod BodyLemmas
 pub mod CheckLemmas
-pub mod ErrorTexts
-pub mod IndexLemmas
+pub mod DecodeSteps
+pub mod EndLaws
 pub mod IndexSteps
+pub mod InGrammar
 pub mod LoginLemmas
 pub mod PartLemmas
-pub mod ReplyLemmas
-pub mod PostLemmas
 pub mod PostSteps
+pub mod ReplyLemmas
 mod Rows
-pub mod RunLemmas
 pub mod SaidSteps
-pub mod TopLemmas
 pub mod WritingLemmas

@@ -1,5 +1,5 @@
 -- A login file that was read keeps to the rules.
-use Rattle.std.proofs.Common.{◌≡◌, ◌≤◌, ◌<◌, ℕ, List, Option, Some, None, refl, ap, subst, inl, inr, ◌⊎◌, arith, length}
+use Rattle.std.proofs.Common.{◌≡◌, ◌<◌, ℕ, List, Option, Some, None, ap, subst, inl, inr, ◌⊎◌, arith, length}
 use Rattle.std.specs.Prelude.{IsSomeAnd}
 use Rattle.io_traits.specs.Input.{file_of}
 use Rattle.nntp_lines.specs.declared.login.Login.{Login}

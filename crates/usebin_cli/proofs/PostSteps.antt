@@ -1,21 +1,63 @@
--- A post, step by step: the lines of its parts, what was told of it, and the line of its end.
-use Rattle.std.proofs.Common.{◌≡◌, ◌<◌, ℕ, suc, zero, ◌+◌, List, [], ◌∷◌, ◌++◌, Bool, true, false, Option, Some, None, refl, sym, ap, ◌∙◌, inl, inr, arith, length, take, get_or, append-nil, append_assoc}
+-- A post, step by step: the login, the lines of its parts, and what was noted and written of it.
+use Rattle.std.proofs.Common.{◌≡◌, ◌≤◌, ◌<◌, ◌+◌, ℕ, suc, zero, List, [], ◌∷◌, ◌++◌, Option, Some, None, refl, inl, inr, sym, ap, ◌∙◌, subst, arith, length, take, get_or, append-nil, append_assoc}
+use Rattle.std.proofs.Math.Nat.{div-le_self}
+use Rattle.std.specs.Prelude.{IfSome, OnSome}
+use Rattle.command_words.specs.CommandLine.Words.{Asks}
+use Rattle.command_words.specs.CommandLine.Command.{Post}
 use Rattle.command_words.specs.Post.{PostAsked}
-use Rattle.input_files.specs.Reading.{Reading}
-use Rattle.poster.specs.declared.index.PartEnd.{PartEnd}
-use Rattle.poster.specs.declared.index.PartEnd.TheVariants as part
+use Rattle.input_files.specs.Reading.{Reading, Fits, HasFailed}
+use Rattle.io_traits.specs.declared.blame.Blame.{Blame}
+use Rattle.io_traits.specs.declared.blame.Blame.TheVariants as blames
 use Rattle.poster.specs.declared.index.Sent.{Sent}
-use Rattle.poster.specs.Session.{Way, whole, refused, stopped}
-use Rattle.usebin_cli.specs.Linked.{Linked}
-use Rattle.usebin_cli.specs.Post.{FitsPost, HasAnySession, HasSession, IsPlanned, IsPosted, PostEnds, PostFails, PostSays, SaysEnd, TellsPosted, ToldParts, Went, last_line, start_of}
+use Rattle.run_ends.specs.declared.end.End.{End}
+use Rattle.run_ends.specs.declared.end.End.TheVariants.{InputFault, Short, Limit as Passes, LoginBroken, NoMemory, Refused}
+use Rattle.run_ends.specs.declared.end.Limit.TheVariants as limits
+use Rattle.yenc_body.specs.Parts.{most_parts, parts_of}
+use Rattle.usebin_cli.specs.Linked.{Linked, OpenedNone}
+use Rattle.usebin_cli.specs.Login.{IsLoginCall, LoginFails, most_login}
+use Rattle.usebin_cli.specs.Post.{FitsPost, IsPlanned, IsPostCall, IsPosted, IsWholeEnd, Posts, posted_text}
 use Rattle.usebin_cli.specs.PostText.{part_line, part_lines}
-use Rattle.usebin_cli.specs.Writing.{Written, Got, IsUntouched, WroteWhole, WroteFront, Told}
-use Rattle.usebin_cli.specs.declared.post.PostEnd.{PostEnd}
-use Rattle.usebin_cli.specs.declared.post.PostEnd.TheVariants.{Posted, NotAll, Memory, InputFault, Short, Limit as Refuses, LoginLimit, LoginBroken, NoLink, Refused, Over, OutputFault}
+use Rattle.usebin_cli.specs.Run.{HasEnded}
+use Rattle.usebin_cli.specs.Steps.{Runs, Stops, TellsPosted}
+use Rattle.usebin_cli.specs.Writing.{Written, IsUntouched, Told, WroteWhole}
+use Rattle.usebin_cli.specs.declared.ended.Ended.{Ended}
 use Rattle.usebin_cli.specs.declared.post.PlannedFile.{PlannedFile}
 use Rattle.usebin_cli.specs.declared.post.PostedFile.{PostedFile}
-use Rattle.usebin_cli.proofs.SaidSteps.{between, front_more, nothing_then, then_nothing, told_got}
-use Rattle.usebin_cli.proofs.TopLemmas.{got_both}
+use Rattle.usebin_cli.proofs.EndLaws.{nothing_noted, wrote_behind}
+
+-- ---- the login
+
+-- a failed call on the login file is one of a post
+login_call : (asked : PostAsked) (blame : Option Blame) → IsLoginCall asked.login blame → IsPostCall asked blame
+login_call asked None is = tt
+login_call asked (Some (blames.Read place)) is = tt
+login_call asked (Some (blames.Open name)) is = inr is
+login_call asked (Some other) is = absurd is
+
+blamed : (asked : PostAsked) (before now : Option (Option Blame)) → OnSome before (IfSome now (IsLoginCall asked.login)) → OnSome before (IfSome now (IsPostCall asked))
+blamed asked None now is = tt
+blamed asked (Some before) None is = tt
+blamed asked (Some before) (Some blame) is = login_call asked blame is
+
+login_failed : (asked : PostAsked) (r : Reading) → HasFailed (IsLoginCall asked.login) r → HasFailed (IsPostCall asked) r
+login_failed asked r x = record { faults = x.faults; shorts = x.shorts; blamed = blamed asked r.blame_before r.blame_now x.blamed }
+
+-- a file that is no longer than a login file may be could be posted
+few_parts : (size part_size : ℕ) → size ≤ most_login → parts_of size part_size ≤ most_parts
+few_parts size part_size fits = omega (arith, fits, div-le_self size part_size)
+
+login_fits : (asked : PostAsked) (current : Option ℕ) → Fits most_login current → FitsPost asked current
+login_fits asked None fits = tt
+login_fits asked (Some size) fits = (omega (arith, fits), few_parts size asked.part_size fits)
+
+-- no login was found, and no link was opened
+pub no_login : (asked : PostAsked) (files : Option (List (List ℕ × List ℕ))) (r : Reading) (end : End) → LoginFails asked.login files r end → (moment : ℕ) (t : Linked) → OpenedNone t → Stops (Asks (Post asked)) (Posts asked files moment r t) r end
+no_login asked files r NoMemory fails = λ moment t none w silent. (record { may = tt; read = fails.0; kept = login_fits asked r.current fails.1; wrote = silent; noted = refl }, inl (inl none))
+no_login asked files r InputFault fails = λ moment t none w silent. (record { may = tt; read = (fails.0.faults, fails.0.shorts); kept = login_fits asked r.current fails.1; wrote = silent; noted = refl }, (login_failed asked r fails.0, inl none))
+no_login asked files r (Short place) fails = λ moment t none w silent. (record { may = tt; read = fails.0; kept = login_fits asked r.current fails.1; wrote = silent; noted = refl }, (fails.2, inl none))
+no_login asked files r (Passes limits.Login) fails = λ moment t none w silent. (record { may = tt; read = fails.0; kept = tt; wrote = silent; noted = refl }, (fails.1, none))
+no_login asked files r (LoginBroken number) fails = λ moment t none w silent. (record { may = tt; read = fails.0; kept = login_fits asked r.current fails.1; wrote = silent; noted = refl }, (fails.2, none))
+no_login asked files r other fails = absurd fails
 
 -- ---- the lines of parts
 
@@ -31,66 +73,45 @@ one_line_more number (suc k) (s ∷ sent) none inside =
     let one : suc k + 1 ≡ suc (k + 1) = omega arith in
     rw one (ap (λ l. part_line number s.end ++ l) (rw same at more) ∙ sym (append_assoc (part_line number s.end) (part_lines (number + 1) (take k sent)) (part_line (number + suc k) (get_or sent k none).end)))
 
--- ---- what was told of it
+-- ---- what was noted and written
 
 -- a file that was planned isn't too large
 planned_fits : (asked : PostAsked) (files : Option (List (List ℕ × List ℕ))) (current : Option ℕ) (content : Option (List ℕ)) (file : PlannedFile) → IsPlanned asked files current content file → FitsPost asked current
 planned_fits asked files current content file is =
     rw is.opened (is.plan_is.few_bytes, rw is.settings_are at is.plan_is.few_parts)
 
--- of a file that was posted there is a session
-session_of : (asked : PostAsked) (files : Option (List (List ℕ × List ℕ))) (r : Reading) (t : Linked) (file : PlannedFile) (code : Option ℕ) (content : Option (List ℕ)) (sent : List Sent) → IsPlanned asked files r.current content file →
-    Went code file.settings file.plan.size (length file.plan.parts) content (start_of file.settings t) t.trace_now sent → HasAnySession asked files r.current t
-session_of asked files r t file None content sent is went = inr (whole, record { file = file; content = content; planned = is; session = went.session })
-session_of asked files r t file (Some code) content sent is went = inr (refused, record { file = file; content = content; planned = is; session = went.session })
+pub posted_fits : (asked : PostAsked) (files : Option (List (List ℕ × List ℕ))) (r : Reading) (t : Linked) (posted : PostedFile) → IsPosted asked files r t posted → FitsPost asked r.current
+posted_fits asked files r t posted is = planned_fits asked files r.current is.content posted.file is.planned
 
-pub posted_fails : (asked : PostAsked) (files : Option (List (List ℕ × List ℕ))) (r : Reading) (t : Linked) (posted : PostedFile) → IsPosted asked files r t posted → PostFails asked files r t Memory
-posted_fails asked files r t posted is =
-    (is.faultless, planned_fits asked files r.current is.content posted.file is.planned, session_of asked files r t posted.file posted.refused is.content posted.sent is.planned is.went)
+-- the end where the text of the index was written whole
+at_whole : (asked : PostAsked) (files : Option (List (List ℕ × List ℕ))) (moment : ℕ) (r : Reading) (t : Linked) (w : Written) (posted : PostedFile) (whole : End) → IsPosted asked files r t posted → posted.refused ≡ None →
+    IsWholeEnd posted.sent whole → WroteWhole (posted_text posted moment) w → HasEnded (Asks (Post asked)) r w (Some (part_lines 1 posted.sent)) whole × Posts asked files moment r t w (Some (part_lines 1 posted.sent)) whole
+at_whole asked files moment r t w posted whole is permitted (inl all) wrote =
+    subst (λ (end : End). HasEnded (Asks (Post asked)) r w (Some (part_lines 1 posted.sent)) end × Posts asked files moment r t w (Some (part_lines 1 posted.sent)) end) (sym all.0)
+    (record { may = tt; read = is.faultless; kept = posted_fits asked files r t posted is; wrote = wrote.faults; noted = tt }, (posted, record { is_posted = is; permitted = permitted; written = wrote; noted = refl }, all.1))
+at_whole asked files moment r t w posted whole is permitted (inr some) wrote =
+    subst (λ (end : End). HasEnded (Asks (Post asked)) r w (Some (part_lines 1 posted.sent)) end × Posts asked files moment r t w (Some (part_lines 1 posted.sent)) end) (sym some.0)
+    (record { may = tt; read = is.faultless; kept = posted_fits asked files r t posted is; wrote = wrote.faults; noted = tt }, (posted, record { is_posted = is; permitted = permitted; written = wrote; noted = refl }, some.1))
 
-pub posted_ends : (asked : PostAsked) (files : Option (List (List ℕ × List ℕ))) (moment : ℕ) (r : Reading) (t : Linked) (w e : Written) (posted : PostedFile) (end : PostEnd) →
-    IsPosted asked files r t posted → TellsPosted posted moment w e end → PostEnds asked files moment r t w e end
-posted_ends asked files moment r t w e posted (Posted told) is tells = (posted, record { is_posted = is; permitted = tells.0; written = tells.1 }, tells.2, tells.3)
-posted_ends asked files moment r t w e posted (NotAll told) is tells = (posted, record { is_posted = is; permitted = tells.0; written = tells.1 }, tells.2, tells.3)
-posted_ends asked files moment r t w e posted Memory is tells = (posted_fails asked files r t posted is, tells.0, tells.1)
-posted_ends asked files moment r t w e posted InputFault is tells = absurd tells
-posted_ends asked files moment r t w e posted (Short place) is tells = absurd tells
-posted_ends asked files moment r t w e posted (Refuses limit) is tells = absurd tells
-posted_ends asked files moment r t w e posted LoginLimit is tells = absurd tells
-posted_ends asked files moment r t w e posted (LoginBroken number) is tells = absurd tells
-posted_ends asked files moment r t w e posted NoLink is tells = absurd tells
-posted_ends asked files moment r t w e posted (Refused code told) is tells = (posted, is, tells.0, tells.1, tells.2)
-posted_ends asked files moment r t w e posted (Over reason) is tells = absurd tells
-posted_ends asked files moment r t w e posted (OutputFault told) is tells = (posted, record { is_posted = is; permitted = tells.0; written = tells.1 }, tells.2)
+-- POST was refused, and the parts were noted
+pub was_refused : (asked : PostAsked) (files : Option (List (List ℕ × List ℕ))) (moment : ℕ) (r : Reading) (t : Linked) (w e : Written) (posted : PostedFile) (ended : Ended) (code : ℕ) → IsPosted asked files r t posted →
+    posted.refused ≡ Some code → ended.end ≡ Refused code → IsUntouched w → Told ended.is_told (part_lines 1 posted.sent) e → Runs (Asks (Post asked)) (Posts asked files moment r t) r w e ended
+was_refused asked files moment r t w e posted ended code is refusal end_is silent told = record {
+  note = Some (part_lines 1 posted.sent);
+  noted = told;
+  common = subst (λ (end : End). HasEnded (Asks (Post asked)) r w (Some (part_lines 1 posted.sent)) end) (sym end_is)
+      (record { may = tt; read = is.faultless; kept = posted_fits asked files r t posted is; wrote = silent; noted = tt });
+  so = subst (λ (end : End). Posts asked files moment r t w (Some (part_lines 1 posted.sent)) end) (sym end_is) (record { posted = posted; is_posted = is; refusal = refusal; noted = refl });
+}
 
--- ---- the line of its end
-
--- the lines of parts, and the line of the end behind them, unless a write failed before
-told_then : (told : Bool) (first : List ℕ) (end : PostEnd) (f0 f1 f2 : ℕ) (t0 t1 t2 : Option (List ℕ)) → Told told first (between f0 f1 t0 t1) →
-    (told ≡ true → Got (last_line end) (between f1 f2 t1 t2)) → (told ≡ false → IsUntouched (between f1 f2 t1 t2)) → Got (first ++ last_line end) (between f0 f2 t0 t2)
-told_then true first end f0 f1 f2 t0 t1 t2 t said unsaid = got_both first (last_line end) f0 f1 f2 t0 t1 t2 t (said refl)
-told_then false first end f0 f1 f2 t0 t1 t2 t said unsaid = front_more first (last_line end) f0 f1 f2 t0 t1 t2 t (unsaid refl)
-
-says_refused : (code : ℕ) (told : Bool) (e : Written) → SaysEnd (Refused code told) e → (told ≡ true → Got (last_line (Refused code told)) e) × (told ≡ false → IsUntouched e)
-says_refused code true e said = ((λ is. said), (λ is. absurd cc))
-says_refused code false e said = ((λ is. absurd cc), (λ is. said))
-
-says_fault : (told : Bool) (e : Written) → SaysEnd (OutputFault told) e → (told ≡ true → Got (last_line (OutputFault told)) e) × (told ≡ false → IsUntouched e)
-says_fault true e said = ((λ is. said), (λ is. absurd cc))
-says_fault false e said = ((λ is. absurd cc), (λ is. said))
-
--- the whole run: what it did, and what it said of its end
-pub says_all : (asked : PostAsked) (files : Option (List (List ℕ × List ℕ))) (moment : ℕ) (r : Reading) (t : Linked) (w : Written) (f0 f1 f2 : ℕ) (t0 t1 t2 : Option (List ℕ)) (end : PostEnd) →
-    PostEnds asked files moment r t w (between f0 f1 t0 t1) end → SaysEnd end (between f1 f2 t1 t2) → PostSays asked files moment r t w (between f0 f2 t0 t2) end
-says_all asked files moment r t w f0 f1 f2 t0 t1 t2 (Posted told) ends said = (ends.0, ends.1, ends.2, then_nothing _ f0 f1 f2 t0 t1 t2 (told_got told _ _ ends.3) said)
-says_all asked files moment r t w f0 f1 f2 t0 t1 t2 (NotAll told) ends said = (ends.0, ends.1, ends.2, then_nothing _ f0 f1 f2 t0 t1 t2 (told_got told _ _ ends.3) said)
-says_all asked files moment r t w f0 f1 f2 t0 t1 t2 Memory ends said = (ends.0, ends.1, nothing_then _ f0 f1 f2 t0 t1 t2 ends.2 said)
-says_all asked files moment r t w f0 f1 f2 t0 t1 t2 InputFault ends said = (ends.0, ends.1, nothing_then _ f0 f1 f2 t0 t1 t2 ends.2 said)
-says_all asked files moment r t w f0 f1 f2 t0 t1 t2 (Short place) ends said = (ends.0, ends.1, nothing_then _ f0 f1 f2 t0 t1 t2 ends.2 said)
-says_all asked files moment r t w f0 f1 f2 t0 t1 t2 (Refuses limit) ends said = (ends.0, ends.1, nothing_then _ f0 f1 f2 t0 t1 t2 ends.2 said)
-says_all asked files moment r t w f0 f1 f2 t0 t1 t2 LoginLimit ends said = (ends.0, ends.1, nothing_then _ f0 f1 f2 t0 t1 t2 ends.2 said)
-says_all asked files moment r t w f0 f1 f2 t0 t1 t2 (LoginBroken number) ends said = (ends.0, ends.1, nothing_then _ f0 f1 f2 t0 t1 t2 ends.2 said)
-says_all asked files moment r t w f0 f1 f2 t0 t1 t2 NoLink ends said = (ends.0, ends.1, nothing_then _ f0 f1 f2 t0 t1 t2 ends.2 said)
-says_all asked files moment r t w f0 f1 f2 t0 t1 t2 (Refused code told) ends said = let both = says_refused code told _ said in (ends.0, ends.1, ends.2, ends.3, told_then told _ (Refused code told) f0 f1 f2 t0 t1 t2 ends.4 both.0 both.1)
-says_all asked files moment r t w f0 f1 f2 t0 t1 t2 (Over reason) ends said = (ends.0, ends.1, nothing_then _ f0 f1 f2 t0 t1 t2 ends.2 said)
-says_all asked files moment r t w f0 f1 f2 t0 t1 t2 (OutputFault told) ends said = let both = says_fault told _ said in (ends.0, ends.1, told_then told _ (OutputFault told) f0 f1 f2 t0 t1 t2 ends.2 both.0 both.1)
+-- what was posted was noted, and its index written, or not for want of memory or since POST was refused
+pub told : (asked : PostAsked) (files : Option (List (List ℕ × List ℕ))) (moment : ℕ) (r : Reading) (t : Linked) (w e : Written) (posted : PostedFile) (ended : Ended) → IsPosted asked files r t posted → TellsPosted posted moment w e ended →
+    Runs (Asks (Post asked)) (Posts asked files moment r t) r w e ended
+told asked files moment r t w e posted ended is (inl x) =
+    nothing_noted (Asks (Post asked)) (Posts asked files moment r t) r w e NoMemory ended x.0 x.1 x.3
+    (record { may = tt; read = is.faultless; kept = posted_fits asked files r t posted is; wrote = x.2; noted = refl }) (inr (posted, is))
+told asked files moment r t w e posted ended is (inr (inl (code, refusal, end_is, silent, noted))) = was_refused asked files moment r t w e posted ended code is refusal end_is silent noted
+told asked files moment r t w e posted ended is (inr (inr (whole, permitted, whole_is, x))) =
+    wrote_behind (Asks (Post asked)) (Posts asked files moment r t) r w e (part_lines 1 posted.sent) (posted_text posted moment) whole ended x
+    (λ wrote. at_whole asked files moment r t w posted whole is permitted whole_is wrote)
+    (λ wrote. (record { may = tt; read = is.faultless; kept = posted_fits asked files r t posted is; wrote = wrote.faults; noted = tt }, (posted, record { is_posted = is; permitted = permitted; written = wrote; noted = refl })))

@@ -1,9 +1,9 @@
 -- A reply has one status line and one body, or one fault.
-use Rattle.std.proofs.Common.{◌≡◌, ℕ, ◌+◌, ◌<◌, List, [], ◌∷◌, ◌++◌, ◌-◌, length, take, drop, Err, sym, ap, ◌∙◌, subst, arith, length-drop, take_all}
+use Rattle.std.proofs.Common.{◌≡◌, ℕ, ◌+◌, ◌<◌, List, [], ◌∷◌, ◌++◌, ◌-◌, length, take, drop, sym, ap, ◌∙◌, subst, arith, length-drop, take_all}
 use Rattle.std.proofs.lemmas.List.{append-nil, take-append-drop}
 use Rattle.dot_blocks.specs.declared.split.BlockError.{BlockError}
 use Rattle.dot_blocks.specs.declared.split.BlockError.TheVariants as blocks
-use Rattle.dot_blocks.specs.Blocks.{BeginsNoBlock, HoldsNoLineEnd, IsBlock, IsRefusedFor}
+use Rattle.dot_blocks.specs.Blocks.{BeginsNoBlock, HoldsNoLineEnd, IsBlock, IsNoBlockFor}
 use Rattle.dot_blocks.proofs.BlockLaws.{blocks_once}
 use Rattle.dot_blocks.proofs.LineEnds.{first_end}
 use Rattle.nntp_lines.specs.declared.status.StatusFault.{StatusFault}
@@ -16,11 +16,9 @@ use Rattle.yenc_body.specs.FirstFault.{IsFirstFault}
 use Rattle.yenc_body.proofs.BodyLaws.{body_read, fault_read}
 use Rattle.command_words.specs.declared.keys.Form.{Form}
 use Rattle.command_words.specs.declared.keys.Form.TheVariants.{File, Wire}
-use Rattle.usebin_cli.specs.declared.reply.ReplyFault.{ReplyFault}
-use Rattle.usebin_cli.specs.declared.reply.ReplyFault.TheVariants.{NoReply, Code, Unfinished, Rest}
-use Rattle.usebin_cli.specs.declared.reply.ReplyError.{ReplyError}
-use Rattle.usebin_cli.specs.declared.reply.ReplyError.TheVariants as replies
-use Rattle.usebin_cli.specs.Decode.{HasBody, HasNoBody, HasNoReply, IsSavedAs, ReadsLines, ReadsText, no_reply}
+use Rattle.run_ends.specs.declared.end.ReplyFault.{ReplyFault}
+use Rattle.run_ends.specs.declared.end.ReplyFault.TheVariants.{NoReply, Code, Unfinished, Rest}
+use Rattle.usebin_cli.specs.Decode.{HasBody, HasNoBody, HasNoReply, IsSavedAs}
 use Rattle.usebin_cli.specs.Reply.{BeginsWithStatus, HasReplyFault, IsBodyReply, body_follows}
 
 same_code : (line : List ℕ) (a b : ℕ) → IsStatusLine line a → IsStatusLine line b → a ≡ b
@@ -89,13 +87,7 @@ split_at text len here = sym (take-append-drop len text) ∙ ap (λ (l : List �
 
 -- no block stands behind the status line
 pub unfinished : (text : List ℕ) (code used : ℕ) (e : BlockError) → BeginsWithStatus text code (drop used text) → code ≡ body_follows → e ≡ blocks.Unfinished →
-    IsRefusedFor (take (length text - used) (drop used text)) e → HasReplyFault text Unfinished
+    IsNoBlockFor (take (length text - used) (drop used text)) e → HasReplyFault text Unfinished
 unfinished text code used e begins is e_is none =
     let all : take (length text - used) (drop used text) ≡ drop used text = take_all (length text - used) (drop used text) (omega (arith, length-drop used text)) in
-    (drop used text, subst (λ (n : ℕ). BeginsWithStatus text n (drop used text)) is begins, subst BeginsNoBlock all (subst (IsRefusedFor (take (length text - used) (drop used text))) e_is none))
-
--- ---- the reading of a text
-
-pub not_read : (form : Form) (text : List ℕ) (e : ReplyError) → ReadsLines form text (Err e) → ReadsText form text (Err (no_reply e))
-not_read form text replies.Memory r = tt
-not_read form text (replies.Refused f) r = r
+    (drop used text, subst (λ (n : ℕ). BeginsWithStatus text n (drop used text)) is begins, subst BeginsNoBlock all (subst (IsNoBlockFor (take (length text - used) (drop used text))) e_is none))

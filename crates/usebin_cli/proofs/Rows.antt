@@ -2,7 +2,7 @@
 use Rattle.std.proofs.Common.{◌≡◌, None, Some, refl}
 use Rattle.yenc_body.specs.Parts.{part_length, part_place, parts_of}
 use Rattle.usebin_cli.specs.Body.{limit_of}
-use Rattle.usebin_cli.specs.declared.encode.Limit.TheVariants.{File, Part, Segments}
+use Rattle.run_ends.specs.declared.end.Limit.TheVariants.{File, Part, Segments}
 use Rattle.limits.specs.declared.TheConstants.{MOST_SEGMENTS}
 
 -- ---- parts

@@ -5,8 +5,8 @@ use Rattle.std.specs.List.{flat_map}
 use Rattle.yenc_body.specs.Parts.{body_spec, most_bytes, most_parts, parts_of}
 use Rattle.yenc_body.specs.declared.spec.BodySpec.{BodySpec}
 use Rattle.command_words.specs.CommandLine.{PartAsked}
-use Rattle.usebin_cli.specs.declared.encode.Limit.{Limit}
-use Rattle.usebin_cli.specs.declared.encode.Limit.TheVariants.{File, Part, Segments}
+use Rattle.run_ends.specs.declared.end.Limit.{Limit}
+use Rattle.run_ends.specs.declared.end.Limit.TheVariants.{File, Part, Segments}
 
 -- ---- what may not be encoded
 

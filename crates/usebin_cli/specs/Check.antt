@@ -1,20 +1,21 @@
 -- How `check` ends.
-use Rattle.std.specs.Prelude.{ℕ, List, [], ◌∷◌, ◌++◌, length, sum_by, Option, codes}
+use Rattle.std.specs.Prelude.{◌≡◌, ◌⊎◌, ℕ, List, [], ◌∷◌, ◌++◌, length, sum_by, Option, codes, ⊤}
 use Rattle.std.specs.Fmt.{decimal}
 use Rattle.nzb_index.specs.Nzb.{IsNzb, segment_count}
 use Rattle.nzb_index.specs.NzbReading.{Refusal, refused_at, past}
-use Rattle.nzb_index.specs.Refusal.{IsRefused}
+use Rattle.nzb_index.specs.Refusal.{IsTextRefused}
 use Rattle.nzb_index.specs.declared.index.FileEntry.{FileEntry}
 use Rattle.nzb_index.specs.declared.index.Index.{Index}
 use Rattle.nzb_index.specs.declared.error.NzbLimit.{NzbLimit}
 use Rattle.nzb_index.specs.declared.error.NzbLimit.TheVariants.{TextBytes, Files, Segments}
-use Rattle.nzb_index.specs.declared.error.NzbReason.{NzbReason}
-use Rattle.nzb_index.specs.declared.error.NzbReason.TheVariants.{Ended, Unexpected, BadReference, WrongTag, DoubleAttribute, NoNumber, BadNumber, BadId, Subset}
-use Rattle.input_files.specs.Reading.{Reading, IsFaultless, IsShortAt, HasFailed, IsBelow, Fits, Exceeds, IsReadOrOpen, IsSaved, most_text}
-use Rattle.usebin_cli.specs.Writing.{Written, IsUntouched, WroteWhole, WroteFront}
+use Rattle.input_files.specs.Reading.{Reading, HasFailed, IsBelow, Exceeds, IsReadOrOpen, IsSaved, most_text}
+use Rattle.usebin_cli.specs.Writing.{Written, WroteWhole, WroteFront}
 use Rattle.usebin_cli.specs.declared.check.Counts.{Counts}
-use Rattle.usebin_cli.specs.declared.check.CheckEnd.{CheckEnd}
-use Rattle.usebin_cli.specs.declared.check.CheckEnd.TheVariants.{Done, Memory, InputFault, Short, TextLimit, Refused, Limit, OutputFault}
+use Rattle.run_ends.specs.declared.end.End.{End}
+use Rattle.run_ends.specs.declared.end.End.TheVariants.{Done, InputFault, OutputFault, Short, Limit as Passes, NoNzb, NoMemory}
+use Rattle.run_ends.specs.declared.end.Limit.{Limit}
+use Rattle.run_ends.specs.declared.end.Limit.TheVariants as limits
+use Rattle.run_ends.specs.declared.end.Limit.TheVariants.{Text}
 
 -- ---- what is printed
 
@@ -34,54 +35,38 @@ counts_of i = record { files = length i.files; segments = segment_count i; bytes
 unfoldable pub counts_text : Counts → List ℕ
 counts_text c = codes "files " ++ decimal c.files ++ codes "\nsegments " ++ decimal c.segments ++ codes "\nbytes " ++ decimal c.bytes ++ 10 ∷ []
 
--- the name of a reason
-abbrev pub nzb_reason_text : NzbReason → List ℕ
-nzb_reason_text Ended = codes "Ended"
-nzb_reason_text Unexpected = codes "Unexpected"
-nzb_reason_text BadReference = codes "BadReference"
-nzb_reason_text WrongTag = codes "WrongTag"
-nzb_reason_text DoubleAttribute = codes "DoubleAttribute"
-nzb_reason_text NoNumber = codes "NoNumber"
-nzb_reason_text BadNumber = codes "BadNumber"
-nzb_reason_text BadId = codes "BadId"
-nzb_reason_text Subset = codes "Subset"
-
--- the line of a text that is refused for a reason at a place
-unfoldable pub place_line : ℕ → NzbReason → List ℕ
-place_line place reason = codes "usebin: place " ++ decimal place ++ codes " " ++ nzb_reason_text reason ++ 10 ∷ []
-
--- the line of a text that passes a limit
-abbrev pub nzb_limit_line : NzbLimit → List ℕ
-nzb_limit_line TextBytes = codes "usebin: limit text 67108864" ++ 10 ∷ []
-nzb_limit_line Files = codes "usebin: limit files 9999" ++ 10 ∷ []
-nzb_limit_line Segments = codes "usebin: limit segments 262144" ++ 10 ∷ []
-
--- the line of what a text is refused for
-abbrev pub refusal_line : Refusal → List ℕ
-refusal_line (refused_at place reason) = place_line place reason
-refusal_line (past limit) = nzb_limit_line limit
+-- the limit that an NZB text passes, as one of all limits
+abbrev pub nzb_limit : NzbLimit → Limit
+nzb_limit TextBytes = Text
+nzb_limit Files = limits.Files
+nzb_limit Segments = limits.Segments
 
 -- ---- how it ends
 
 -- the text at the path lists this
-abbrev pub IsListed : List ℕ → Option (List (List ℕ × List ℕ)) → Option ℕ → Index → Type 0
-IsListed path files current index = (text : List ℕ) × IsSaved path files current text × IsNzb text index
+abbrev pub HasIndex : List ℕ → Option (List (List ℕ × List ℕ)) → Option ℕ → Index → Type 0
+HasIndex path files current index = (text : List ℕ) × IsSaved path files current text × IsNzb text index
 
 -- the text at the path is refused for this
 abbrev pub IsNoIndex : List ℕ → Option (List (List ℕ × List ℕ)) → Option ℕ → Refusal → Type 0
-IsNoIndex path files current refusal = (text : List ℕ) × IsSaved path files current text × IsRefused text refusal
+IsNoIndex path files current refusal = (text : List ℕ) × IsSaved path files current text × IsTextRefused text refusal
 
 -- the counts of such an index were written so
 abbrev pub WroteCounts : (List ℕ → Written → Type 0) → List ℕ → Option (List (List ℕ × List ℕ)) → Reading → Written → Type 0
-WroteCounts how path files r w = (index : Index) × IsListed path files r.current index × how (counts_text (counts_of index)) w
+WroteCounts how path files r w = (index : Index) × HasIndex path files r.current index × how (counts_text (counts_of index)) w
 
--- what each end says of the input and of the output
-abbrev pub CheckEnds : List ℕ → Option (List (List ℕ × List ℕ)) → Reading → Written → CheckEnd → Type 0
-CheckEnds path files r w Done = IsFaultless r × Fits most_text r.current × WroteCounts WroteWhole path files r w
-CheckEnds path files r w OutputFault = IsFaultless r × Fits most_text r.current × WroteCounts WroteFront path files r w
-CheckEnds path files r w Memory = IsFaultless r × Fits most_text r.current × IsUntouched w
-CheckEnds path files r w InputFault = HasFailed (IsReadOrOpen path) r × Fits most_text r.current × IsUntouched w
-CheckEnds path files r w (Short place) = IsShortAt place r × Fits most_text r.current × IsBelow r.current place × IsUntouched w
-CheckEnds path files r w TextLimit = IsFaultless r × Exceeds most_text r.current × IsUntouched w
-CheckEnds path files r w (Refused place reason) = IsFaultless r × Fits most_text r.current × IsNoIndex path files r.current (refused_at place reason) × IsUntouched w
-CheckEnds path files r w (Limit limit) = IsFaultless r × Fits most_text r.current × IsNoIndex path files r.current (past limit) × IsUntouched w
+-- the text at the path is too long to be read, or it was read and passes this limit
+abbrev pub PassesLimit : List ℕ → Option (List (List ℕ × List ℕ)) → Reading → Limit → Type 0
+PassesLimit path files r limit =
+    ((limit ≡ Text) × Exceeds most_text r.current) ⊎ ((passed : NzbLimit) × (limit ≡ nzb_limit passed) × IsNoIndex path files r.current (past passed))
+
+-- what each end of `check` says of the input and of the output, beside what it has in common with others
+abbrev pub Checks : List ℕ → Option (List (List ℕ × List ℕ)) → Reading → Written → End → Type 0
+Checks path files r w Done = WroteCounts WroteWhole path files r w
+Checks path files r w OutputFault = WroteCounts WroteFront path files r w
+Checks path files r w InputFault = HasFailed (IsReadOrOpen path) r
+Checks path files r w (Short place) = IsBelow r.current place
+Checks path files r w (Passes limit) = PassesLimit path files r limit
+Checks path files r w (NoNzb place reason) = IsNoIndex path files r.current (refused_at place reason)
+Checks path files r w NoMemory = ⊤
+Checks path files r w other = ⊥

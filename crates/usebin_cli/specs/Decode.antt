@@ -1,5 +1,5 @@
 -- How `decode` ends.
-use Rattle.std.specs.Prelude.{◌≡◌, ℕ, List, Bool, true, false, Option, Result, Ok, Err, ⊤}
+use Rattle.std.specs.Prelude.{◌≡◌, ℕ, List, Option, Some, Result, Ok, Err, ⊤}
 use Rattle.yenc_body.specs.Body.{IsBody}
 use Rattle.yenc_body.specs.FirstFault.{IsFirstFault}
 use Rattle.lists.specs.Text.{text_lines}
@@ -8,15 +8,12 @@ use Rattle.yenc_body.specs.declared.fault.Fault.{Fault}
 use Rattle.command_words.specs.CommandLine.{BodyAsked}
 use Rattle.usebin_cli.specs.Printed.{range_line}
 use Rattle.usebin_cli.specs.Reply.{HasReplyFault, IsBodyReply}
-use Rattle.input_files.specs.Reading.{Reading, IsFaultless, IsShortAt, HasFailed, IsBelow, Fits, Exceeds, IsReadOrOpen, IsSaved, most_text}
-use Rattle.usebin_cli.specs.Writing.{Written, IsUntouched, WroteWhole, WroteFront}
-use Rattle.usebin_cli.specs.declared.decode.DecodeEnd.{DecodeEnd}
-use Rattle.usebin_cli.specs.declared.decode.DecodeEnd.TheVariants.{Done, Memory, InputFault, Short, TextLimit, NoBody, NoReply, OutputFault}
-use Rattle.usebin_cli.specs.declared.decode.TextError.{TextError}
-use Rattle.usebin_cli.specs.declared.decode.TextError.TheVariants as texts
-use Rattle.usebin_cli.specs.declared.reply.ReplyError.{ReplyError}
-use Rattle.usebin_cli.specs.declared.reply.ReplyError.TheVariants as replies
-use Rattle.usebin_cli.specs.declared.reply.ReplyFault.{ReplyFault}
+use Rattle.input_files.specs.Reading.{Reading, HasFailed, IsBelow, Exceeds, IsReadOrOpen, IsSaved, most_text}
+use Rattle.usebin_cli.specs.Writing.{Written, WroteWhole, WroteFront}
+use Rattle.run_ends.specs.declared.end.End.{End}
+use Rattle.run_ends.specs.declared.end.End.TheVariants.{Done, InputFault, OutputFault, Short, Limit as Passes, NoBody, NoReply, NoMemory}
+use Rattle.run_ends.specs.declared.end.Limit.TheVariants.{Text}
+use Rattle.run_ends.specs.declared.end.ReplyFault.{ReplyFault}
 use Rattle.command_words.specs.declared.keys.Form.{Form}
 use Rattle.command_words.specs.declared.keys.Form.TheVariants.{File, Wire}
 
@@ -50,39 +47,32 @@ abbrev pub IsNoReply : BodyAsked → Option (List (List ℕ × List ℕ)) → Op
 IsNoReply asked files current f = (text : List ℕ) × IsSaved asked.path files current text × HasNoReply asked.form text f
 
 -- a text was read to its part, or not for this
-abbrev pub ReadsText : Form → List ℕ → Result Part TextError → Type 0
+abbrev pub ReadsText : Form → List ℕ → Result Part End → Type 0
 ReadsText form text (Ok p) = HasBody form text p
-ReadsText form text (Err texts.Memory) = ⊤
-ReadsText form text (Err (texts.NoReply f)) = HasNoReply form text f
-ReadsText form text (Err (texts.NoBody f)) = HasNoBody form text f
-
--- what is wrong with a reply, as what is wrong with a text
-abbrev pub no_reply : ReplyError → TextError
-no_reply replies.Memory = texts.Memory
-no_reply (replies.Refused f) = texts.NoReply f
+ReadsText form text (Err NoMemory) = ⊤
+ReadsText form text (Err (NoReply f)) = HasNoReply form text f
+ReadsText form text (Err (NoBody f)) = HasNoBody form text f
+ReadsText form text (Err other) = ⊥
 
 -- the lines of a body were read, or not for this
-abbrev pub ReadsLines : Form → List ℕ → Result (List (List ℕ)) ReplyError → Type 0
+abbrev pub ReadsLines : Form → List ℕ → Result (List (List ℕ)) End → Type 0
 ReadsLines form text (Ok lines) = IsSavedAs form text lines
-ReadsLines form text (Err replies.Memory) = ⊤
-ReadsLines form text (Err (replies.Refused f)) = HasNoReply form text f
+ReadsLines form text (Err NoMemory) = ⊤
+ReadsLines form text (Err (NoReply f)) = HasNoReply form text f
+ReadsLines form text (Err other) = ⊥
 
--- the range of a part was told whole, or only in front of a failed write
-abbrev pub ToldRange : Bool → Part → Written → Type 0
-ToldRange true p e = WroteWhole (range_line p) e
-ToldRange false p e = WroteFront (range_line p) e
+-- the bytes of such a part were written, behind its range, which was noted
+abbrev pub WroteDecoded : (List ℕ → Written → Type 0) → BodyAsked → Option (List (List ℕ × List ℕ)) → Reading → Written → Option (List ℕ) → Type 0
+WroteDecoded how asked files r w told = (p : Part) × IsDecoded asked files r.current p × how p.content w × (told ≡ Some (range_line p))
 
--- the bytes of such a part were written, behind its range on the sink for errors
-abbrev pub WroteDecoded : (List ℕ → Written → Type 0) → (Part → Written → Type 0) → BodyAsked → Option (List (List ℕ × List ℕ)) → Reading → Written → Written → Type 0
-WroteDecoded how told asked files r w e = (p : Part) × IsDecoded asked files r.current p × how p.content w × told p e
-
--- what each end says of the input, of the output and of the sink for errors
-abbrev pub DecodeEnds : BodyAsked → Option (List (List ℕ × List ℕ)) → Reading → Written → Written → DecodeEnd → Type 0
-DecodeEnds asked files r w e (Done told) = IsFaultless r × Fits most_text r.current × WroteDecoded WroteWhole (ToldRange told) asked files r w e
-DecodeEnds asked files r w e (OutputFault told) = IsFaultless r × Fits most_text r.current × WroteDecoded WroteFront (ToldRange told) asked files r w e
-DecodeEnds asked files r w e Memory = IsFaultless r × Fits most_text r.current × IsUntouched w × IsUntouched e
-DecodeEnds asked files r w e InputFault = HasFailed (IsReadOrOpen asked.path) r × Fits most_text r.current × IsUntouched w × IsUntouched e
-DecodeEnds asked files r w e (Short place) = IsShortAt place r × Fits most_text r.current × IsBelow r.current place × IsUntouched w × IsUntouched e
-DecodeEnds asked files r w e TextLimit = IsFaultless r × Exceeds most_text r.current × IsUntouched w × IsUntouched e
-DecodeEnds asked files r w e (NoBody f) = IsFaultless r × Fits most_text r.current × IsNoBody asked files r.current f × IsUntouched w × IsUntouched e
-DecodeEnds asked files r w e (NoReply f) = IsFaultless r × Fits most_text r.current × IsNoReply asked files r.current f × IsUntouched w × IsUntouched e
+-- what each end of `decode` says of the input, of the output and of what was noted, beside what it has in common with others
+abbrev pub Decodes : BodyAsked → Option (List (List ℕ × List ℕ)) → Reading → Written → Option (List ℕ) → End → Type 0
+Decodes asked files r w told Done = WroteDecoded WroteWhole asked files r w told
+Decodes asked files r w told OutputFault = WroteDecoded WroteFront asked files r w told
+Decodes asked files r w told InputFault = HasFailed (IsReadOrOpen asked.path) r
+Decodes asked files r w told (Short place) = IsBelow r.current place
+Decodes asked files r w told (Passes Text) = Exceeds most_text r.current
+Decodes asked files r w told (NoBody f) = IsNoBody asked files r.current f
+Decodes asked files r w told (NoReply f) = IsNoReply asked files r.current f
+Decodes asked files r w told NoMemory = ⊤
+Decodes asked files r w told other = ⊥

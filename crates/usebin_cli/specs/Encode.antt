@@ -7,20 +7,20 @@ use Rattle.io_traits.specs.declared.blame.Blame.{Blame}
 use Rattle.io_traits.specs.declared.blame.Blame.TheVariants.{Read, Open}
 use Rattle.usebin_cli.specs.Body.{limit_of, part_spec, text_of}
 use Rattle.command_words.specs.CommandLine.{PartAsked}
-use Rattle.input_files.specs.Reading.{Reading, IsFaultless, IsShortAt, HasFailed, IsIn, IsPieceAt}
-use Rattle.usebin_cli.specs.Writing.{Written, IsUntouched, WroteWhole, WroteFront}
+use Rattle.input_files.specs.Reading.{Reading, IsFaultless, HasFailed, IsIn, IsPieceAt}
+use Rattle.usebin_cli.specs.Writing.{Written, WroteWhole, WroteFront}
 use Rattle.usebin_cli.specs.declared.encode.AskedPart.{AskedPart}
-use Rattle.usebin_cli.specs.declared.encode.EncodeEnd.{EncodeEnd}
-use Rattle.usebin_cli.specs.declared.encode.EncodeEnd.TheVariants.{Done, Memory, InputFault, Short, OutputFault, Limit as Refuses}
-use Rattle.usebin_cli.specs.declared.encode.Limit.{Limit}
+use Rattle.run_ends.specs.declared.end.End.{End}
+use Rattle.run_ends.specs.declared.end.End.TheVariants.{Done, InputFault, OutputFault, Short, Limit as Passes, NoMemory}
+use Rattle.run_ends.specs.declared.end.Limit.{Limit}
 
 -- a file of this length, if there is one, has the asked part and is within the limits
 abbrev pub HasPart : PartAsked → Option ℕ → Type 0
 HasPart asked current = IfSome current (λ size. limit_of asked.part_size asked.part size ≡ None)
 
 -- there is a file of this length, and it or the part that is asked of it is refused for this
-abbrev pub IsOver : PartAsked → Option ℕ → Limit → Type 0
-IsOver asked current limit = IsSomeAnd current (λ size. limit_of asked.part_size asked.part size ≡ Some limit)
+abbrev pub ExceedsLimit : PartAsked → Option ℕ → Limit → Type 0
+ExceedsLimit asked current limit = IsSomeAnd current (λ size. limit_of asked.part_size asked.part size ≡ Some limit)
 
 -- a place is one of the asked part in the opened file
 abbrev pub IsInPart : PartAsked → Option ℕ → ℕ → Type 0
@@ -49,14 +49,15 @@ pub record IsEncoded (asked : PartAsked) (files : Option (List (List ℕ × List
 abbrev pub WroteEncoded : (List ℕ → Written → Type 0) → PartAsked → Option (List (List ℕ × List ℕ)) → Reading → Written → Type 0
 WroteEncoded how asked files r w = (text : List ℕ) × IsEncoded asked files r.current text × how text w
 
--- what each end says of the input and of the output
-abbrev pub EncodeEnds : PartAsked → Option (List (List ℕ × List ℕ)) → Reading → Written → EncodeEnd → Type 0
-EncodeEnds asked files r w Done = IsFaultless r × HasPart asked r.current × WroteEncoded WroteWhole asked files r w
-EncodeEnds asked files r w Memory = IsFaultless r × HasPart asked r.current × IsUntouched w
-EncodeEnds asked files r w InputFault = HasFailed (IsAskedCall asked r.current) r × HasPart asked r.current × IsUntouched w
-EncodeEnds asked files r w (Short place) = IsShortAt place r × IsInPart asked r.current place × HasPart asked r.current × IsUntouched w
-EncodeEnds asked files r w (Refuses limit) = IsFaultless r × IsOver asked r.current limit × IsUntouched w
-EncodeEnds asked files r w OutputFault = IsFaultless r × HasPart asked r.current × WroteEncoded WroteFront asked files r w
+-- what each end of `encode` says of the input and of the output, beside what it has in common with others
+abbrev pub Encodes : PartAsked → Option (List (List ℕ × List ℕ)) → Reading → Written → End → Type 0
+Encodes asked files r w Done = WroteEncoded WroteWhole asked files r w
+Encodes asked files r w OutputFault = WroteEncoded WroteFront asked files r w
+Encodes asked files r w InputFault = HasFailed (IsAskedCall asked r.current) r
+Encodes asked files r w (Short place) = IsInPart asked r.current place
+Encodes asked files r w (Passes limit) = ExceedsLimit asked r.current limit
+Encodes asked files r w NoMemory = ⊤
+Encodes asked files r w other = ⊥
 
 -- ---- on the way there
 
@@ -76,8 +77,3 @@ pub record IsAskedPart (asked : PartAsked) (files : Option (List (List ℕ × Li
   pub length_is : length part.content ≡ part_length part.spec.size asked.part_size asked.part
   pub spec_is : part.spec ≡ part_spec asked part.spec.size
   pub is_part : IsPart part.spec (length part.content)
-
--- the asked part was read, or `encode` ends so without a write
-abbrev pub ReadsPart : PartAsked → Option (List (List ℕ × List ℕ)) → Reading → Result AskedPart EncodeEnd → Type 0
-ReadsPart asked files r (Ok part) = IsAskedPart asked files r part
-ReadsPart asked files r (Err end) = (w : Written) → IsUntouched w → EncodeEnds asked files r w end

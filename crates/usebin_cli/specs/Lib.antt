@@ -2,6 +2,7 @@ pub mod Body
 pub mod Check
 pub mod Decode
 pub mod Encode
+pub mod Ended
 pub mod Index
 pub mod Linked
 pub mod Login
@@ -10,4 +11,5 @@ pub mod PostText
 pub mod Printed
 pub mod Reply
 pub mod Run
+pub mod Steps
 pub mod Writing

@@ -4,6 +4,7 @@ use Rattle.io_traits.specs.Causes.{Rose, BlamesNamed}
 use Rattle.io_traits.specs.declared.blame.Blame.{Blame}
 use Rattle.io_traits.specs.declared.blame.Blame.TheVariants as blames
 use Rattle.io_traits.specs.declared.links.LinkEvent.{LinkEvent}
+use Rattle.io_traits.specs.declared.links.Links.{Ghosts as Net}
 
 -- the trace, the count of faults and the last failed call of links, before and after
 pub record Linked : Type 0 where
@@ -14,15 +15,15 @@ pub record Linked : Type 0 where
   pub blame_before : Option (Option Blame)
   pub blame_now : Option (Option Blame)
 
--- the same, of links with these members
-abbrev pub linked : {L : Type 0} → (L → Option (List LinkEvent)) → (L → ℕ) → (L → Option (Option Blame)) → L → L → Linked
-linked trace faults blame before now = record {
-  trace_before = trace before;
-  trace_now = trace now;
-  faults_before = faults before;
-  faults_now = faults now;
-  blame_before = blame before;
-  blame_now = blame now;
+-- the same, of links
+abbrev pub linked : {L : Type 0} → Net L → L → L → Linked
+linked links before now = record {
+  trace_before = links.trace before;
+  trace_now = links.trace now;
+  faults_before = links.faults before;
+  faults_now = links.faults now;
+  blame_before = links.blame before;
+  blame_now = links.blame now;
 }
 
 -- no link was opened

@@ -1,5 +1,5 @@
 -- The login at a news server, from the login file that the words name, if they name one.
-use Rattle.std.specs.Prelude.{◌≡◌, ◌≤◌, ◌<◌, ℕ, List, [], ◌∷◌, length, Option, Some, None, Result, Ok, Err, IfSome, IsSomeAnd, ⊤}
+use Rattle.std.specs.Prelude.{◌≡◌, ◌≤◌, ◌<◌, ℕ, List, length, Option, Some, None, Result, Ok, Err, IsSomeAnd, ⊤}
 use Rattle.io_traits.specs.Input.{file_of}
 use Rattle.io_traits.specs.declared.blame.Blame.{Blame}
 use Rattle.io_traits.specs.declared.blame.Blame.TheVariants as blames
@@ -8,12 +8,14 @@ use Rattle.lists.specs.Text.{text_lines}
 use Rattle.server_logins.specs.Logins.{AreLogins, FindsLogin, IsFirstBroken}
 use Rattle.server_logins.specs.declared.logins.ServerLogin.{ServerLogin}
 use Rattle.input_files.specs.Reading.{Reading, IsFaultless, IsShortAt, HasFailed, Fits, IsBelow, IsFileAt}
-use Rattle.usebin_cli.specs.declared.login.LoginEnd.{LoginEnd}
-use Rattle.usebin_cli.specs.declared.login.LoginEnd.TheVariants.{Memory, InputFault, Short, TooLong, Broken}
+use Rattle.run_ends.specs.declared.end.End.{End}
+use Rattle.run_ends.specs.declared.end.End.TheVariants.{InputFault, Short, Limit as Passes, LoginBroken, NoMemory}
+use Rattle.run_ends.specs.declared.end.Limit.TheVariants as limits
+use Rattle.limits.specs.declared.TheConstants.{MOST_LOGIN_BYTES}
 
 -- how many bytes a login file may have
 abbrev pub most_login : ℕ
-most_login = 65536
+most_login = MOST_LOGIN_BYTES
 
 -- a text is that of the login file at a path, where the files are told
 pub record IsLoginFile (path : List ℕ) (files : Option (List (List ℕ × List ℕ))) (text : List ℕ) : Type 0 where
@@ -57,19 +59,20 @@ IsLoginCall named (Some other) = ⊥
 
 -- What an end without a login says of the input. The file of this length that was opened last, if one was, is no longer than a
 -- login file may be, but where it is refused for that.
-abbrev pub LoginFails : Option (List ℕ) → Option (List (List ℕ × List ℕ)) → Reading → LoginEnd → Type 0
-LoginFails named files r Memory = IsFaultless r × Fits most_login r.current
+abbrev pub LoginFails : Option (List ℕ) → Option (List (List ℕ × List ℕ)) → Reading → End → Type 0
+LoginFails named files r NoMemory = IsFaultless r × Fits most_login r.current
 LoginFails named files r InputFault = HasFailed (IsLoginCall named) r × Fits most_login r.current
 LoginFails named files r (Short place) = IsShortAt place r × Fits most_login r.current × IsBelow r.current place
-LoginFails named files r TooLong = IsFaultless r × IsLoginTooLong named files r.current
-LoginFails named files r (Broken number) = IsFaultless r × Fits most_login r.current × IsLoginBroken named files number
+LoginFails named files r (Passes limits.Login) = IsFaultless r × IsLoginTooLong named files r.current
+LoginFails named files r (LoginBroken number) = IsFaultless r × Fits most_login r.current × IsLoginBroken named files number
+LoginFails named files r other = ⊥
 
 -- the login at a server was found, if there is one, or not
-abbrev pub FindsLoginAt : List ℕ → Option (List ℕ) → Option (List (List ℕ × List ℕ)) → Reading → Result (Option Login) LoginEnd → Type 0
+abbrev pub FindsLoginAt : List ℕ → Option (List ℕ) → Option (List (List ℕ × List ℕ)) → Reading → Result (Option Login) End → Type 0
 FindsLoginAt server named files r (Ok login) = IsFaultless r × (r.blame_now ≡ r.blame_before) × IsLoginAt server named files login
 FindsLoginAt server named files r (Err end) = LoginFails named files r end
 
 -- the text of a login file was read, or not
-abbrev pub ReadsLoginFile : List ℕ → Option (List (List ℕ × List ℕ)) → Reading → Result (List ℕ) LoginEnd → Type 0
+abbrev pub ReadsLoginFile : List ℕ → Option (List (List ℕ × List ℕ)) → Reading → Result (List ℕ) End → Type 0
 ReadsLoginFile path files r (Ok text) = IsFaultless r × (r.blame_now ≡ r.blame_before) × IsLoginFile path files text × (r.current ≡ Some (length text))
 ReadsLoginFile path files r (Err end) = LoginFails (Some path) files r end

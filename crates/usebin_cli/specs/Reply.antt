@@ -3,10 +3,10 @@
 use Rattle.std.specs.Prelude.{◌≡◌, ◌≢◌, ◌<◌, ℕ, List, ◌∷◌, ◌++◌, drop, length, take, Option, Some, None, ⊤}
 use Rattle.dot_blocks.specs.Blocks.{BeginsNoBlock, HoldsNoLineEnd, IsBlock}
 use Rattle.nntp_lines.specs.StatusLine.{IsStatusLine}
-use Rattle.usebin_cli.specs.declared.reply.ReplyError.{ReplyError}
-use Rattle.usebin_cli.specs.declared.reply.ReplyError.TheVariants.{Memory, Refused}
-use Rattle.usebin_cli.specs.declared.reply.ReplyFault.{ReplyFault}
-use Rattle.usebin_cli.specs.declared.reply.ReplyFault.TheVariants.{NoReply, Code, Unfinished, Rest}
+use Rattle.run_ends.specs.declared.end.End.{End}
+use Rattle.run_ends.specs.declared.end.End.TheVariants.{NoMemory, NoReply as LacksReply}
+use Rattle.run_ends.specs.declared.end.ReplyFault.{ReplyFault}
+use Rattle.run_ends.specs.declared.end.ReplyFault.TheVariants.{NoReply, Code, Unfinished, Rest}
 
 -- the code of a reply that goes on with the body of an article (6.2.3)
 abbrev pub body_follows : ℕ
@@ -33,9 +33,10 @@ HasReplyFault text Rest =
     × ((used : ℕ) × (used < length rest) × ((lines : List (List ℕ)) × IsBlock lines (take used rest)))
 
 -- a text is refused for its fault, unless memory was wanting
-abbrev pub IsReplyError : List ℕ → ReplyError → Type 0
-IsReplyError text Memory = ⊤
-IsReplyError text (Refused fault) = HasReplyFault text fault
+abbrev pub IsReplyError : List ℕ → End → Type 0
+IsReplyError text NoMemory = ⊤
+IsReplyError text (LacksReply fault) = HasReplyFault text fault
+IsReplyError text other = ⊥
 
 -- the code of the status line at a text's front, and how many bytes it has with its CRLF
 abbrev pub ReadsStatus : List ℕ → Option (ℕ × ℕ) → Type 0

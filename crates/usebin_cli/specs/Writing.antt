@@ -2,6 +2,7 @@
 use Rattle.std.specs.Prelude.{◌≡◌, ◌⊎◌, ℕ, Bool, true, false, List, take, Option}
 use Rattle.io_traits.specs.Causes.{Rose}
 use Rattle.io_traits.specs.Sink.{told_and}
+use Rattle.io_traits.specs.declared.sink.Sink.{Ghosts as Outlet}
 
 -- the count of faults and the told bytes of a sink, before and after
 pub record Written : Type 0 where
@@ -10,9 +11,9 @@ pub record Written : Type 0 where
   pub told_before : Option (List ℕ)
   pub told_now : Option (List ℕ)
 
--- the same, of a sink with these members
-abbrev pub written : {S : Type 0} → (S → ℕ) → (S → Option (List ℕ)) → S → S → Written
-written faults told before now = record { faults_before = faults before; faults_now = faults now; told_before = told before; told_now = told now }
+-- the same, of a sink
+abbrev pub written : {S : Type 0} → Outlet S → S → S → Written
+written sink before now = record { faults_before = sink.faults before; faults_now = sink.faults now; told_before = sink.told before; told_now = sink.told now }
 
 -- nothing was written
 pub record IsUntouched (w : Written) : Type 0 where

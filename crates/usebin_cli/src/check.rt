@@ -1,8 +1,11 @@
 // The command `check`.
-ghost use Rattle.std.specs.Prelude.{◌≡◌, ◌<◌, ◌^◌, length, sum_by};
+ghost use Rattle.std.specs.Prelude.{◌≡◌, ◌<◌, ◌^◌, None, length, sum_by};
 ghost use Rattle.nzb_index.specs.Canonical.{IsValidIndex};
-ghost use Rattle.usebin_cli.specs.Check.{CheckEnds, bytes_of, counts_of as counts};
+ghost use Rattle.command_words.specs.CommandLine.Words.{Asks};
+ghost use Rattle.command_words.specs.CommandLine.Command.{Check};
 ghost use Rattle.input_files.specs.Reading.{reading};
+ghost use Rattle.usebin_cli.specs.Check.{Checks, bytes_of, counts_of as counts, nzb_limit};
+ghost use Rattle.usebin_cli.specs.Run.{HasEnded};
 ghost use Rattle.usebin_cli.specs.Writing.{written};
 
 use crate::printed::write_counts;
@@ -11,29 +14,9 @@ use command_words::CheckWords;
 use input_files::{ReadError, read_file};
 use io_traits::{Failed, Input, Sink};
 use limits::MOST_TEXT_BYTES;
-use nzb_index::{FileEntry, Index, NzbError, NzbLimit, NzbReason, read_nzb};
+use nzb_index::{FileEntry, Index, NzbError, NzbLimit, read_nzb};
+use run_ends::{End, Limit};
 use std::alloc::Global;
-
-/// How `check` ended.
-#[derive(Clone, Copy, Debug, PartialEq, Eq)]
-pub(crate) enum CheckEnd {
-    /// The counts were written whole.
-    Done,
-    /// No memory was left.
-    Memory,
-    /// A call on the input failed.
-    InputFault,
-    /// A read gave no byte at this place, below the text's length.
-    Short(u64),
-    /// The text has too many bytes, and was not read.
-    TextLimit,
-    /// The text is no NZB, for this reason at this place.
-    Refused { place: usize, reason: NzbReason },
-    /// The text passes this limit.
-    Limit(NzbLimit),
-    /// A write failed.
-    OutputFault,
-}
 
 /// How many files an index has, and how many segments and bytes they have together.
 #[derive(Clone, Copy, Debug, PartialEq, Eq)]
@@ -49,28 +32,39 @@ pub(crate) fn check<I: Input, O: Sink>(
     asked: CheckWords<'_>,
     input: &mut I,
     out: &mut O,
-) -> CheckEnd
-    ensures { CheckEnds asked.entry.path.now (I.files input.old) (reading I.faults I.shorts I.short_place I.current I.blame input.old input.new)
-        (written O.faults O.told out.old out.new) result }
+) -> End
+    ensures ended { HasEnded (Asks (Check asked.entry.path.now)) (reading I.Input input.old input.new) (written O.Sink out.old out.new) None result }
+    ensures so { Checks asked.entry.path.now (I.files input.old) (reading I.Input input.old input.new) (written O.Sink out.old out.new) result }
 {
     let text = match read_file(alloc, asked.path, MOST_TEXT_BYTES as u64, input) {
         Ok(text) => text,
-        Err(ReadError::Memory) => return CheckEnd::Memory,
-        Err(ReadError::Fault) => return CheckEnd::InputFault,
-        Err(ReadError::Short(place)) => return CheckEnd::Short(place),
-        Err(ReadError::TooLong) => return CheckEnd::TextLimit,
+        Err(ReadError::Memory) => return End::NoMemory,
+        Err(ReadError::Fault) => return End::InputFault,
+        Err(ReadError::Short(place)) => return End::Short(place),
+        Err(ReadError::TooLong) => return End::Limit(Limit::Text),
     };
     let index = match read_nzb(alloc, text.as_slice()) {
         Ok(index) => index,
-        Err(NzbError::Memory) => return CheckEnd::Memory,
-        Err(NzbError::Refused { place, reason }) => return CheckEnd::Refused { place, reason },
-        Err(NzbError::Limit(limit)) => return CheckEnd::Limit(limit),
+        Err(NzbError::Memory) => return End::NoMemory,
+        Err(NzbError::Refused { place, reason }) => return End::NoNzb { place, reason },
+        Err(NzbError::Limit(limit)) => return End::Limit(limit_of(limit)),
     };
     let mut lines = [0; 160];
     let len = write_counts(counts_of(&index), &mut lines);
     match write_all(out, &lines[..len]) {
-        Ok(()) => CheckEnd::Done,
-        Err(Failed) => CheckEnd::OutputFault,
+        Ok(()) => End::Done,
+        Err(Failed) => End::OutputFault,
+    }
+}
+
+// The limit that an NZB text passes.
+fn limit_of(limit: NzbLimit) -> Limit
+    ensures { result ≡ nzb_limit limit }
+{
+    match limit {
+        NzbLimit::TextBytes => Limit::Text,
+        NzbLimit::Files => Limit::Files,
+        NzbLimit::Segments => Limit::Segments,
     }
 }
 

@@ -1,7 +1,12 @@
 // The command `encode`.
+ghost use Rattle.std.specs.Prelude.{◌≡◌, ◌≤◌, None};
 ghost use Rattle.command_words.specs.Asked.{asked_of, IsEncodeAllowed};
-ghost use Rattle.usebin_cli.specs.Encode.{EncodeEnds, IsPartOrLimit, ReadsPart};
+ghost use Rattle.command_words.specs.CommandLine.Words.{Asks};
+ghost use Rattle.command_words.specs.CommandLine.Command.{Encode};
 ghost use Rattle.input_files.specs.Reading.{reading};
+ghost use Rattle.usebin_cli.specs.Encode.{Encodes, IsPartOrLimit};
+ghost use Rattle.usebin_cli.specs.Run.{HasEnded};
+ghost use Rattle.usebin_cli.specs.Steps.{ReadsPart};
 ghost use Rattle.usebin_cli.specs.Writing.{written};
 
 use crate::body::{body_of, text_of};
@@ -11,36 +16,9 @@ use input_files::{ReadError, read_part};
 use io_traits::{Failed, Input, Sink};
 use limits::{MOST_FILE_BYTES, MOST_SEGMENTS};
 use lists::Bytes;
+use run_ends::{End, Limit};
 use std::alloc::Global;
 use yenc_body::{BodySpec, parts_of};
-
-/// What is wrong with a file, or with the part that is asked of it.
-#[derive(Clone, Copy, Debug, PartialEq, Eq)]
-pub(crate) enum Limit {
-    /// The file has too many bytes.
-    File,
-    /// The file has too many parts of the asked length.
-    Segments,
-    /// The file has no such part. It has so many.
-    Part(u32),
-}
-
-/// How `encode` ended.
-#[derive(Clone, Copy, Debug, PartialEq, Eq)]
-pub(crate) enum EncodeEnd {
-    /// The text was written whole.
-    Done,
-    /// No memory was left.
-    Memory,
-    /// A call on the input failed.
-    InputFault,
-    /// A read gave no byte at this place, below the file's length.
-    Short(u64),
-    /// The file or the part is refused, and nothing was read of it.
-    Limit(Limit),
-    /// A write failed.
-    OutputFault,
-}
 
 // A part of a file that was read: which one, and its bytes.
 #[derive(Drop)]
@@ -55,23 +33,24 @@ pub(crate) fn encode<I: Input, O: Sink>(
     asked: EncodeWords<'_>,
     input: &mut I,
     out: &mut O,
-) -> EncodeEnd
+) -> End
     requires { IsEncodeAllowed asked }
-    ensures { EncodeEnds (asked_of asked.entry) (I.files input.old) (reading I.faults I.shorts I.short_place I.current I.blame input.old input.new) (written O.faults O.told out.old out.new) result }
+    ensures ended { HasEnded (Asks (Encode (asked_of asked.entry))) (reading I.Input input.old input.new) (written O.Sink out.old out.new) None result }
+    ensures so { Encodes (asked_of asked.entry) (I.files input.old) (reading I.Input input.old input.new) (written O.Sink out.old out.new) result }
 {
     let part = match read_asked(alloc, asked, input) {
         Ok(part) => part,
         Err(end) => return end,
     };
     let Ok(lines) = body_of(alloc, &part.spec, part.content.as_slice()) else {
-        return EncodeEnd::Memory;
+        return End::NoMemory;
     };
     let Ok(text) = text_of(alloc, &lines) else {
-        return EncodeEnd::Memory;
+        return End::NoMemory;
     };
     match write_all(out, text.as_slice()) {
-        Ok(()) => EncodeEnd::Done,
-        Err(Failed) => EncodeEnd::OutputFault,
+        Ok(()) => End::Done,
+        Err(Failed) => End::OutputFault,
     }
 }
 
@@ -80,26 +59,26 @@ fn read_asked<I: Input>(
     alloc: Global,
     asked: EncodeWords<'_>,
     input: &mut I,
-) -> Result<AskedPart, EncodeEnd>
+) -> Result<AskedPart, End>
     requires { IsEncodeAllowed asked }
-    ensures { ReadsPart (asked_of asked.entry) (I.files input.old) (reading I.faults I.shorts I.short_place I.current I.blame input.old input.new) result }
+    ensures { ReadsPart (asked_of asked.entry) (I.files input.old) (reading I.Input input.old input.new) result }
 {
     let path = asked.path;
     let part_size = u64::from(asked.part_size);
     let Ok(size) = input.open(path) else {
-        return Err(EncodeEnd::InputFault);
+        return Err(End::InputFault);
     };
     let spec = match spec_of(asked, size) {
         Ok(spec) => spec,
-        Err(limit) => return Err(EncodeEnd::Limit(limit)),
+        Err(limit) => return Err(End::Limit(limit)),
     };
     let place = spec.first - 1;
     let len = part_size.min(size - place) as usize;
     match read_part(alloc, place, len, input) {
         Ok(content) => Ok(AskedPart { spec, content }),
-        Err(ReadError::Memory) => Err(EncodeEnd::Memory),
-        Err(ReadError::Fault) => Err(EncodeEnd::InputFault),
-        Err(ReadError::Short(place)) => Err(EncodeEnd::Short(place)),
+        Err(ReadError::Memory) => Err(End::NoMemory),
+        Err(ReadError::Fault) => Err(End::InputFault),
+        Err(ReadError::Short(place)) => Err(End::Short(place)),
         Err(ReadError::TooLong) => unreachable!(),
     }
 }

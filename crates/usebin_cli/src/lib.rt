@@ -5,13 +5,13 @@ mod body;
 mod check;
 mod decode;
 mod encode;
+mod ended;
 mod index;
 mod login;
 mod nothing;
 mod post;
 mod printed;
 mod reply;
-mod statuses;
 mod top;
 mod writing;
 

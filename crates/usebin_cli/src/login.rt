@@ -9,23 +9,9 @@ use io_traits::Input;
 use limits::MOST_LOGIN_BYTES;
 use lists::Bytes;
 use nntp_lines::Login;
+use run_ends::{End, Limit};
 use server_logins::{LoginError, read_logins};
 use std::alloc::Global;
-
-/// Why no login file was read whole, or what is wrong with it.
-#[derive(Clone, Copy, Debug, PartialEq, Eq)]
-pub(crate) enum LoginEnd {
-    /// No memory was left.
-    Memory,
-    /// A call on the input failed.
-    InputFault,
-    /// A read gave no byte at this place, below the file's length.
-    Short(u64),
-    /// The file has too many bytes, and was not read.
-    TooLong,
-    /// The line of this number is the first that breaks a rule.
-    Broken(u64),
-}
 
 /// The login at a server, where a login file is named and has one. Where none is named, nothing is read.
 pub(crate) fn server_login<I: Input>(
@@ -33,8 +19,8 @@ pub(crate) fn server_login<I: Input>(
     named: Option<&str>,
     server: &[u8],
     input: &mut I,
-) -> Result<Option<Login>, LoginEnd>
-    ensures login { FindsLoginAt server.now (option_copied named.entry) (I.files input.old) (reading I.faults I.shorts I.short_place I.current I.blame input.old input.new) result }
+) -> Result<Option<Login>, End>
+    ensures login { FindsLoginAt server.now (option_copied named.entry) (I.files input.old) (reading I.Input input.old input.new) result }
     ensures files { OnOk result (I.files input.new ≡ I.files input.old) }
     ensures unnamed { option_copied named.entry ≡ None → input.new ≡ input.old }
 {
@@ -47,34 +33,34 @@ pub(crate) fn server_login<I: Input>(
     };
     let logins = match read_logins(alloc, text.as_slice()) {
         Ok(logins) => logins,
-        Err(LoginError::Memory) => return Err(LoginEnd::Memory),
-        Err(LoginError::Broken(number)) => return Err(LoginEnd::Broken(number)),
+        Err(LoginError::Memory) => return Err(End::NoMemory),
+        Err(LoginError::Broken(number)) => return Err(End::LoginBroken(number)),
     };
     match logins.login_for(server) {
         Some(login) => match login.clone() {
             Ok(login) => Ok(Some(login)),
-            Err(_) => Err(LoginEnd::Memory),
+            Err(_) => Err(End::NoMemory),
         },
         None => Ok(None),
     }
 }
 
 // The text of the login file at a path.
-fn login_text<I: Input>(alloc: Global, path: &str, input: &mut I) -> Result<Bytes, LoginEnd>
-    ensures text { ReadsLoginFile path.now (I.files input.old) (reading I.faults I.shorts I.short_place I.current I.blame input.old input.new) result }
+fn login_text<I: Input>(alloc: Global, path: &str, input: &mut I) -> Result<Bytes, End>
+    ensures text { ReadsLoginFile path.now (I.files input.old) (reading I.Input input.old input.new) result }
     ensures files { OnOk result (I.files input.new ≡ I.files input.old) }
 {
     let Ok(len) = input.open(path) else {
-        return Err(LoginEnd::InputFault);
+        return Err(End::InputFault);
     };
     if len > MOST_LOGIN_BYTES as u64 {
-        return Err(LoginEnd::TooLong);
+        return Err(End::Limit(Limit::Login));
     }
     match read_part(alloc, 0, len as usize, input) {
         Ok(text) => Ok(text),
-        Err(ReadError::Memory) => Err(LoginEnd::Memory),
-        Err(ReadError::Fault) => Err(LoginEnd::InputFault),
-        Err(ReadError::Short(place)) => Err(LoginEnd::Short(place)),
+        Err(ReadError::Memory) => Err(End::NoMemory),
+        Err(ReadError::Fault) => Err(End::InputFault),
+        Err(ReadError::Short(place)) => Err(End::Short(place)),
         Err(ReadError::TooLong) => unreachable!(),
     }
 }

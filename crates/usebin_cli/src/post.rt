@@ -5,57 +5,27 @@ ghost use Rattle.input_files.specs.Reading.{reading};
 ghost use Rattle.poster.specs.Index.{AreOutcomes};
 ghost use Rattle.poster.specs.Plan.{IsPlanOf};
 ghost use Rattle.poster.specs.Settings.{AreSettings};
-ghost use Rattle.usebin_cli.specs.Post.{AreAllPosted, FindsPostLogin, PlansFile, PostEnds, PostTells, PostsFile, SaysEnd, TellsPosted, posted_text, settings_of, status_of};
+ghost use Rattle.command_words.specs.CommandLine.Words.{Asks};
+ghost use Rattle.command_words.specs.CommandLine.Command.{Post as AsksPost};
 ghost use Rattle.usebin_cli.specs.Linked.{linked};
+ghost use Rattle.usebin_cli.specs.Post.{AreAllPosted, IsWholeEnd, Posts, posted_text, settings_of};
 ghost use Rattle.usebin_cli.specs.PostText.{part_line, part_lines};
-ghost use Rattle.usebin_cli.specs.Writing.{Told, written};
+ghost use Rattle.usebin_cli.specs.Steps.{PlansFile, PostsFile, Runs, TellsPosted};
+ghost use Rattle.usebin_cli.specs.Writing.{written};
 
-use crate::encode::Limit;
-use crate::login::{LoginEnd, server_login};
+use crate::ended::{Ended, note, write_behind};
+use crate::login::server_login;
 use crate::printed::write_end;
-use crate::statuses::{
-    input_fault, link_over, login_broken, login_too_long, no_link, no_memory, output_fault,
-    over_limit, refused, short,
-};
-use crate::writing::write_all;
 use command_words::PostWords;
-use io_traits::{Failed, Input, Links, Sink};
+use io_traits::{Input, Links, Sink};
 use limits::{MOST_FILE_BYTES, MOST_SEGMENTS};
 use lists::{Bytes, List, Memory, bytes_of};
-use nntp_lines::{Login, Why};
+use nntp_lines::Login;
 use nzb_index::write_nzb;
 use poster::{PartEnd, Plan, PostError, Sent, Settings, plan, post_index, run_post};
+use run_ends::{End, Limit};
 use std::alloc::Global;
 use yenc_body::parts_of;
-
-/// How `post` ended.
-#[derive(Clone, Copy, Debug, PartialEq, Eq)]
-pub(crate) enum PostEnd {
-    /// Each part was posted, and the index was written whole; whether the lines of parts were told whole before.
-    Posted(bool),
-    /// Some part wasn't posted, and the index was written whole; whether the lines of parts were told whole before.
-    NotAll(bool),
-    /// No memory was left.
-    Memory,
-    /// A call on the input failed.
-    InputFault,
-    /// A read gave no byte at this place, below the file's length.
-    Short(u64),
-    /// The file is refused, and nothing was read of it.
-    Limit(Limit),
-    /// The login file has too many bytes, and was not read.
-    LoginLimit,
-    /// The line of this number is the first of the login file that breaks a rule.
-    LoginBroken(u64),
-    /// No link was opened.
-    NoLink,
-    /// The server refused `POST` with this code; whether the lines of parts were told whole.
-    Refused(u16, bool),
-    /// The link was over before a byte of any article was sent.
-    Over(Why),
-    /// A write failed; whether the lines of parts were told whole before.
-    OutputFault(bool),
-}
 
 // A file that is to be posted: how, and in which parts.
 #[derive(Drop)]
@@ -81,17 +51,17 @@ pub(crate) fn post<I: Input, L: Links, O: Sink, E: Sink>(
     links: &mut L,
     out: &mut O,
     err: &mut E,
-) -> PostEnd
+) -> Ended
     requires allowed { IsPostAllowed (post_found asked) }
     requires moment { moment ≤ 999999999999 }
-    ensures { PostEnds (post_found asked.entry) (I.files input.old) moment (reading I.faults I.shorts I.short_place I.current I.blame input.old input.new)
-        (linked L.trace L.faults L.blame links.old links.new) (written O.faults O.told out.old out.new) (written E.faults E.told err.old err.new) result }
+    ensures { Runs (Asks (AsksPost (post_found asked.entry)))
+        (Posts (post_found asked.entry) (I.files input.old) moment (reading I.Input input.old input.new) (linked L.Links links.old links.new))
+        (reading I.Input input.old input.new) (written O.Sink out.old out.new) (written E.Sink err.old err.new) result }
 {
-    let posted = match post_file(alloc, &asked, input, links) {
-        Ok(posted) => posted,
-        Err(end) => return end,
-    };
-    tell_posted(alloc, &posted, moment, out, err)
+    match post_file(alloc, &asked, input, links) {
+        Ok(posted) => tell_posted(alloc, &posted, moment, out, err),
+        Err(end) => Ended { end, is_told: true },
+    }
 }
 
 // Posts a file over one link.
@@ -100,10 +70,10 @@ fn post_file<I: Input, L: Links>(
     asked: &PostWords<'_>,
     input: &mut I,
     links: &mut L,
-) -> Result<PostedFile, PostEnd>
+) -> Result<PostedFile, End>
     requires { IsPostAllowed (post_found asked.now) }
-    ensures { PostsFile (post_found asked.now) (I.files input.old) (reading I.faults I.shorts I.short_place I.current I.blame input.old input.new)
-        (linked L.trace L.faults L.blame links.old links.new) result }
+    ensures { PostsFile (post_found asked.now) (I.files input.old) (reading I.Input input.old input.new)
+        (linked L.Links links.old links.new) result }
 {
     let file = match plan_file(alloc, asked, input) {
         Ok(file) => file,
@@ -120,11 +90,11 @@ fn post_file<I: Input, L: Links>(
             sent,
             refused: Some(code),
         }),
-        Err(PostError::Memory) => Err(PostEnd::Memory),
-        Err(PostError::Input) => Err(PostEnd::InputFault),
-        Err(PostError::Short(place)) => Err(PostEnd::Short(place)),
-        Err(PostError::NoLink) => Err(PostEnd::NoLink),
-        Err(PostError::Over(why)) => Err(PostEnd::Over(why)),
+        Err(PostError::Memory) => Err(End::NoMemory),
+        Err(PostError::Input) => Err(End::InputFault),
+        Err(PostError::Short(place)) => Err(End::Short(place)),
+        Err(PostError::NoLink) => Err(End::NoLink),
+        Err(PostError::Over(why)) => Err(End::Over(why)),
     }
 }
 
@@ -133,48 +103,29 @@ fn plan_file<I: Input>(
     alloc: Global,
     asked: &PostWords<'_>,
     input: &mut I,
-) -> Result<PlannedFile, PostEnd>
+) -> Result<PlannedFile, End>
     requires { IsPostAllowed (post_found asked.now) }
-    ensures { PlansFile (post_found asked.now) (I.files input.old) (reading I.faults I.shorts I.short_place I.current I.blame input.old input.new) (I.content input.new) result }
+    ensures { PlansFile (post_found asked.now) (I.files input.old) (reading I.Input input.old input.new) (I.content input.new) result }
 {
-    let login = match login_of(alloc, asked, input) {
+    let login = match server_login(alloc, asked.login, asked.server, input) {
         Ok(login) => login,
         Err(end) => return Err(end),
     };
     let Ok(size) = input.open(asked.path) else {
-        return Err(PostEnd::InputFault);
+        return Err(End::InputFault);
     };
     if size > MOST_FILE_BYTES {
-        return Err(PostEnd::Limit(Limit::File));
+        return Err(End::Limit(Limit::File));
     }
     if parts_of(size, asked.part_size as u64) > MOST_SEGMENTS as u64 {
-        return Err(PostEnd::Limit(Limit::Segments));
+        return Err(End::Limit(Limit::Segments));
     }
     let Ok(settings) = settings_of(alloc, asked, login) else {
-        return Err(PostEnd::Memory);
+        return Err(End::NoMemory);
     };
     match plan(alloc, &settings, size) {
         Ok(plan) => Ok(PlannedFile { settings, plan }),
-        Err(_) => Err(PostEnd::Memory),
-    }
-}
-
-// The login at the server, where a login file is named and has one.
-fn login_of<I: Input>(
-    alloc: Global,
-    asked: &PostWords<'_>,
-    input: &mut I,
-) -> Result<Option<Login>, PostEnd>
-    ensures login { FindsPostLogin (post_found asked.now) (I.files input.old) (reading I.faults I.shorts I.short_place I.current I.blame input.old input.new) result }
-    ensures files { OnOk result (I.files input.new ≡ I.files input.old) }
-{
-    match server_login(alloc, asked.login, asked.server, input) {
-        Ok(login) => Ok(login),
-        Err(LoginEnd::Memory) => Err(PostEnd::Memory),
-        Err(LoginEnd::InputFault) => Err(PostEnd::InputFault),
-        Err(LoginEnd::Short(place)) => Err(PostEnd::Short(place)),
-        Err(LoginEnd::TooLong) => Err(PostEnd::LoginLimit),
-        Err(LoginEnd::Broken(number)) => Err(PostEnd::LoginBroken(number)),
+        Err(_) => Err(End::NoMemory),
     }
 }
 
@@ -208,41 +159,43 @@ fn tell_posted<O: Sink, E: Sink>(
     moment: u64,
     out: &mut O,
     err: &mut E,
-) -> PostEnd
+) -> Ended
     requires settings { AreSettings posted.now.file.settings }
     requires plan { IsPlanOf posted.now.file.settings posted.now.file.plan.size posted.now.file.plan }
     requires sent { AreOutcomes posted.now.file.plan posted.now.sent }
     requires moment { moment ≤ 999999999999 }
-    ensures { TellsPosted posted.now moment (written O.faults O.told out.old out.new) (written E.faults E.told err.old err.new) result }
+    ensures { TellsPosted posted.now moment (written O.Sink out.old out.new) (written E.Sink err.old err.new) result }
 {
     let sent = posted.sent.as_slice();
     let Ok(lines) = lines_of(alloc, sent) else {
-        return PostEnd::Memory;
+        return Ended {
+            end: End::NoMemory,
+            is_told: true,
+        };
     };
     if let Some(code) = posted.refused {
-        return PostEnd::Refused(code, tell(err, lines.as_slice()));
+        return Ended {
+            end: End::Refused(code),
+            is_told: note(lines.as_slice(), err),
+        };
     }
     let Ok(text) = index_text(alloc, posted, moment) else {
-        return PostEnd::Memory;
+        return Ended {
+            end: End::NoMemory,
+            is_told: true,
+        };
     };
-    let told = tell(err, lines.as_slice());
-    if write_all(out, text.as_slice()).is_err() {
-        return PostEnd::OutputFault(told);
-    }
-    if are_posted(sent) {
-        PostEnd::Posted(told)
-    } else {
-        PostEnd::NotAll(told)
-    }
+    write_behind(lines.as_slice(), text.as_slice(), whole_end(sent), out, err)
 }
 
-// Whether a text was written whole.
-fn tell<E: Sink>(err: &mut E, text: &[u8]) -> bool
-    ensures { Told result text.now (written E.faults E.told err.old err.new) }
+// How a post ends where the text of its index was written whole.
+fn whole_end(sent: &[Sent]) -> End
+    ensures { IsWholeEnd sent.now result }
 {
-    match write_all(err, text) {
-        Ok(()) => true,
-        Err(Failed) => false,
+    if are_posted(sent) {
+        End::Done
+    } else {
+        End::NotAllPosted
     }
 }
 
@@ -296,60 +249,4 @@ fn push_line(number: u64, end: PartEnd, text: &mut Bytes) -> Result<(), Memory>
         }
     };
     text.extend(&line[..len])
-}
-
-/// Posts a file over one link, writes the index of what was posted, and says how that ended. It answers the status.
-pub(crate) fn post_and_tell<I: Input, L: Links, O: Sink, E: Sink>(
-    alloc: Global,
-    asked: PostWords<'_>,
-    moment: u64,
-    input: &mut I,
-    links: &mut L,
-    out: &mut O,
-    err: &mut E,
-) -> u8
-    requires allowed { IsPostAllowed (post_found asked) }
-    requires moment { moment ≤ 999999999999 }
-    ensures { PostTells (post_found asked.entry) (I.files input.old) moment (reading I.faults I.shorts I.short_place I.current I.blame input.old input.new)
-        (linked L.trace L.faults L.blame links.old links.new) (written O.faults O.told out.old out.new) (written E.faults E.told err.old err.new) result }
-{
-    let end = post(alloc, asked, moment, input, links, out, err);
-    say_end(end, err)
-}
-
-// Says how a post ended, where nothing failed to be said before, and answers the status.
-fn say_end<E: Sink>(end: PostEnd, err: &mut E) -> u8
-    ensures status { result ≡ status_of end }
-    ensures said { SaysEnd end (written E.faults E.told err.old err.new) }
-{
-    match end {
-        PostEnd::Posted(_) => 0,
-        PostEnd::NotAll(_) => 1,
-        PostEnd::Memory => no_memory(err),
-        PostEnd::InputFault => input_fault(err),
-        PostEnd::Short(place) => short(place, err),
-        PostEnd::Limit(limit) => over_limit(limit, err),
-        PostEnd::LoginLimit => login_too_long(err),
-        PostEnd::LoginBroken(number) => login_broken(number, err),
-        PostEnd::NoLink => no_link(err),
-        PostEnd::Refused(code, told) => say_refused(code, told, err),
-        PostEnd::Over(why) => link_over(why, err),
-        PostEnd::OutputFault(told) => say_fault(told, err),
-    }
-}
-
-// Says that the server refused `POST`. Where a write to `err` failed before, nothing more is written to it.
-fn say_refused<E: Sink>(code: u16, told: bool, err: &mut E) -> u8
-    ensures status { result ≡ 8 }
-    ensures said { SaysEnd (PostEnd.Refused code told) (written E.faults E.told err.old err.new) }
-{
-    if told { refused(code, err) } else { 8 }
-}
-
-// Says that a write failed. Where one to `err` failed before, nothing more is written to it.
-fn say_fault<E: Sink>(told: bool, err: &mut E) -> u8
-    ensures status { result ≡ 4 }
-    ensures said { SaysEnd (PostEnd.OutputFault told) (written E.faults E.told err.old err.new) }
-{
-    if told { output_fault(err) } else { 4 }
 }

@@ -5,48 +5,27 @@ ghost use Rattle.usebin_cli.specs.Reply.{IsBodyReply, IsReplyError, ReadsStatus}
 use dot_blocks::{BlockError, line_len, split_block};
 use lists::Lines;
 use nntp_lines::read_status;
+use run_ends::{End, ReplyFault};
 use std::alloc::Global;
 
 // The code of a reply that goes on with the body of an article (RFC 3977, section 6.2.3).
 const BODY_FOLLOWS: u16 = 222;
 
-/// Why a text is no reply with a body.
-#[derive(Clone, Copy, Debug, PartialEq, Eq)]
-pub(crate) enum ReplyFault {
-    /// It doesn't begin with a status line and CRLF.
-    NoReply,
-    /// Its status line has this code, and not 222.
-    Code(u16),
-    /// No block stands behind its status line.
-    Unfinished,
-    /// More follows its block.
-    Rest,
-}
-
-/// Why a reply was not read.
-#[derive(Clone, Copy, Debug, PartialEq, Eq)]
-pub(crate) enum ReplyError {
-    /// No memory was left.
-    Memory,
-    /// The text is no reply with a body.
-    Refused(ReplyFault),
-}
-
 /// The lines of the body in a reply.
-pub(crate) fn reply_lines(alloc: Global, text: &[u8]) -> Result<Lines, ReplyError>
+pub(crate) fn reply_lines(alloc: Global, text: &[u8]) -> Result<Lines, End>
     ensures { MatchResult result (IsBodyReply text.now) (IsReplyError text.now) }
 {
     let Some((code, used)) = front_status(text) else {
-        return Err(ReplyError::Refused(ReplyFault::NoReply));
+        return Err(End::NoReply(ReplyFault::NoReply));
     };
     if code != BODY_FOLLOWS {
-        return Err(ReplyError::Refused(ReplyFault::Code(code)));
+        return Err(End::NoReply(ReplyFault::Code(code)));
     }
     match split_block(alloc, &text[used..]) {
         Ok(lines) => Ok(lines),
-        Err(BlockError::Memory) => Err(ReplyError::Memory),
-        Err(BlockError::Unfinished) => Err(ReplyError::Refused(ReplyFault::Unfinished)),
-        Err(BlockError::Rest(_)) => Err(ReplyError::Refused(ReplyFault::Rest)),
+        Err(BlockError::Memory) => Err(End::NoMemory),
+        Err(BlockError::Unfinished) => Err(End::NoReply(ReplyFault::Unfinished)),
+        Err(BlockError::Rest(_)) => Err(End::NoReply(ReplyFault::Rest)),
     }
 }
 

@@ -1,6 +1,6 @@
 // The command `check`, on the top call over objects in memory.
 use crate::fixtures::{ended, input_of, repeated, run, run_failing};
-use row_fixtures::ShrunkInput;
+use row_fixtures::PartialInput;
 use std::process::Abort;
 
 const WORDS: [&str; 3] = ["check", "--nzb", "a.nzb"];
@@ -84,7 +84,7 @@ fn keeps_to_the_limits(rt: HostRuntime) {
         "usebin: limit segments 262144\n",
     );
     // A text that is too long is not read: a read of this input would be a short one.
-    let ran = run(&rt, &WORDS, ShrunkInput::new(67_108_865, 0));
+    let ran = run(&rt, &WORDS, PartialInput::shrunk(67_108_865, 0));
     ended(&rt, ran, 6, b"", "usebin: limit text 67108864\n");
 }
 
@@ -92,7 +92,7 @@ fn keeps_to_the_limits(rt: HostRuntime) {
 fn tells_failed_calls_and_short_reads(rt: HostRuntime) {
     let ran = run(&rt, &WORDS, input_of(&rt, "b.nzb", EXAMPLE));
     ended(&rt, ran, 3, b"", "usebin: input fault\n");
-    let ran = run(&rt, &WORDS, ShrunkInput::new(9, 7));
+    let ran = run(&rt, &WORDS, PartialInput::shrunk(9, 7));
     ended(&rt, ran, 6, b"", "usebin: short 7\n");
     let input = input_of(&rt, "a.nzb", EXAMPLE);
     let ran = run_failing(&rt, &WORDS, input, &[1], &[]);

@@ -1,7 +1,7 @@
 // The command `decode`, on the top call over objects in memory.
 use crate::fixtures::{ended, input_of, repeated, run, run_failing};
 use io_memory::MemInput;
-use row_fixtures::{Ran, ShrunkInput};
+use row_fixtures::{PartialInput, Ran};
 use std::process::Abort;
 
 const WORDS: [&str; 3] = ["decode", "--input", "saved"];
@@ -40,80 +40,82 @@ fn decodes_a_saved_article(rt: HostRuntime) {
     decodes(&rt, empty, 0, b"", "range 1-0 of 0\n");
 }
 
+// Texts that are refused, and what is said of them.
+const REFUSED: [(&[u8], &str); 18] = [
+    (b"", "usebin: line 1 column 1 NoBegin\n"),
+    (
+        b"=ybegin line=128 size=9\n[\\]^_`abc\n=yend size=9 crc32=cbf43926\n",
+        "usebin: line 1 column 1 BadBegin NoItem name\n",
+    ),
+    (
+        b"=ybegin size=9x name=d\n",
+        "usebin: line 1 column 1 BadBegin BadNumber size\n",
+    ),
+    (
+        b"=ybegin size=9 size=9 name=d\n",
+        "usebin: line 1 column 1 BadBegin Repeated size\n",
+    ),
+    (
+        b"=ybegin size=9 name= \n",
+        "usebin: line 1 column 1 BadBegin BadName\n",
+    ),
+    (
+        b"=ybegin size=16777217 name=d\n",
+        "usebin: line 1 column 1 PartRange\n",
+    ),
+    (
+        b"=ybegin part=1 size=9 name=d\nabc\n",
+        "usebin: line 2 column 1 NoPart\n",
+    ),
+    (
+        b"=ybegin part=1 size=9 name=d\n=ypart end=9\n",
+        "usebin: line 2 column 1 BadPart NoItem begin\n",
+    ),
+    (
+        b"=ybegin line=128 size=2 name=d\na=\ra\n=yend size=2\n",
+        "usebin: line 2 column 3 Stray\n",
+    ),
+    (
+        b"=ybegin line=128 size=2 name=d\na=\n=yend size=2\n",
+        "usebin: line 2 column 2 LoneEscape\n",
+    ),
+    (
+        b"=ybegin line=128 size=8 name=d\n[\\]^_`abc\n=yend size=8\n",
+        "usebin: line 2 column 9 TooMany\n",
+    ),
+    (
+        b"=ybegin line=128 size=8 name=d\n=yfoo\n",
+        "usebin: line 2 column 1 Keyword\n",
+    ),
+    (
+        b"=ybegin line=128 size=9 name=d\n[\\]^_`abc\n",
+        "usebin: line 3 column 1 NoEnd\n",
+    ),
+    (
+        b"=ybegin line=128 size=9 name=d\n[\\]^_`abc\n=yend pcrc32=xyz\n",
+        "usebin: line 3 column 1 BadEnd BadNumber pcrc32\n",
+    ),
+    (
+        b"=ybegin part=1 size=9 name=d\n=ypart begin=1 end=9\n[\\]^_`abc\n=yend size=9 part=2\n",
+        "usebin: line 4 column 1 EndPart 2 1\n",
+    ),
+    (
+        b"=ybegin line=128 size=9 name=d\n[\\]^_`abc\n=yend size=8\n",
+        "usebin: line 3 column 1 EndSize 8 9\n",
+    ),
+    (
+        b"=ybegin line=128 size=10 name=d\n[\\]^_`abc\n=yend size=10\n",
+        "usebin: line 3 column 1 TooFew 9 10\n",
+    ),
+    (
+        b"=ybegin line=128 size=9 name=d\n[\\]^_`abc\n=yend size=9 crc32=1\n",
+        "usebin: line 3 column 1 CrcDiffers 00000001 cbf43926\n",
+    ),
+];
+
 #[test]
 fn names_the_line_the_column_and_the_reason(rt: HostRuntime) {
-    let rows: [(&[u8], &str); 18] = [
-        (b"", "usebin: line 1 column 1 NoBegin\n"),
-        (
-            b"=ybegin line=128 size=9\n[\\]^_`abc\n=yend size=9 crc32=cbf43926\n",
-            "usebin: line 1 column 1 BadBegin NoItem name\n",
-        ),
-        (
-            b"=ybegin size=9x name=d\n",
-            "usebin: line 1 column 1 BadBegin BadNumber size\n",
-        ),
-        (
-            b"=ybegin size=9 size=9 name=d\n",
-            "usebin: line 1 column 1 BadBegin Repeated size\n",
-        ),
-        (
-            b"=ybegin size=9 name= \n",
-            "usebin: line 1 column 1 BadBegin BadName\n",
-        ),
-        (
-            b"=ybegin size=16777217 name=d\n",
-            "usebin: line 1 column 1 PartRange\n",
-        ),
-        (
-            b"=ybegin part=1 size=9 name=d\nabc\n",
-            "usebin: line 2 column 1 NoPart\n",
-        ),
-        (
-            b"=ybegin part=1 size=9 name=d\n=ypart end=9\n",
-            "usebin: line 2 column 1 BadPart NoItem begin\n",
-        ),
-        (
-            b"=ybegin line=128 size=2 name=d\na=\ra\n=yend size=2\n",
-            "usebin: line 2 column 3 Stray\n",
-        ),
-        (
-            b"=ybegin line=128 size=2 name=d\na=\n=yend size=2\n",
-            "usebin: line 2 column 2 LoneEscape\n",
-        ),
-        (
-            b"=ybegin line=128 size=8 name=d\n[\\]^_`abc\n=yend size=8\n",
-            "usebin: line 2 column 9 TooMany\n",
-        ),
-        (
-            b"=ybegin line=128 size=8 name=d\n=yfoo\n",
-            "usebin: line 2 column 1 Keyword\n",
-        ),
-        (
-            b"=ybegin line=128 size=9 name=d\n[\\]^_`abc\n",
-            "usebin: line 3 column 1 NoEnd\n",
-        ),
-        (
-            b"=ybegin line=128 size=9 name=d\n[\\]^_`abc\n=yend pcrc32=xyz\n",
-            "usebin: line 3 column 1 BadEnd BadNumber pcrc32\n",
-        ),
-        (
-            b"=ybegin part=1 size=9 name=d\n=ypart begin=1 end=9\n[\\]^_`abc\n=yend size=9 part=2\n",
-            "usebin: line 4 column 1 EndPart 2 1\n",
-        ),
-        (
-            b"=ybegin line=128 size=9 name=d\n[\\]^_`abc\n=yend size=8\n",
-            "usebin: line 3 column 1 EndSize 8 9\n",
-        ),
-        (
-            b"=ybegin line=128 size=10 name=d\n[\\]^_`abc\n=yend size=10\n",
-            "usebin: line 3 column 1 TooFew 9 10\n",
-        ),
-        (
-            b"=ybegin line=128 size=9 name=d\n[\\]^_`abc\n=yend size=9 crc32=1\n",
-            "usebin: line 3 column 1 CrcDiffers 00000001 cbf43926\n",
-        ),
-    ];
-    for (text, line) in rows {
+    for (text, line) in REFUSED {
         decodes(&rt, text, 6, b"", line);
     }
 }
@@ -200,9 +202,9 @@ fn decodes_what_is_encoded_of_critical_bytes(rt: HostRuntime) {
 
 #[test]
 fn a_text_may_have_67108864_bytes(rt: HostRuntime) {
-    let ran = run(&rt, &WORDS, ShrunkInput::new(67_108_865, 0));
+    let ran = run(&rt, &WORDS, PartialInput::shrunk(67_108_865, 0));
     ended(&rt, ran, 6, b"", "usebin: limit text 67108864\n");
-    let ran = run(&rt, &WORDS, ShrunkInput::new(67_108_864, 3));
+    let ran = run(&rt, &WORDS, PartialInput::shrunk(67_108_864, 3));
     ended(&rt, ran, 6, b"", "usebin: short 3\n");
 }
 

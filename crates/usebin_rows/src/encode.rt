@@ -1,6 +1,6 @@
 // The command `encode`, on the top call over objects in memory.
 use crate::fixtures::{ended, input_of, run, run_failing};
-use row_fixtures::{Ran, ShrunkInput, SparseInput};
+use row_fixtures::{PartialInput, Ran};
 use std::process::Abort;
 
 #[test]
@@ -69,60 +69,64 @@ fn escapes_a_tab_in_the_last_column(rt: HostRuntime) {
     );
 }
 
+const ONCE: &[u8] = b"123456789";
+
+const THRICE: &[u8] = b"123456789123456789123456789";
+
+// The name of a file, its bytes, the words that ask for a part of it, and what is written.
+const PARTS: [(&str, &[u8], &[&str], &[u8]); 6] = [
+    (
+        "t",
+        THRICE,
+        &["encode", "--input", "t", "--part-size", "9", "--part", "2"],
+        b"=ybegin part=2 total=3 line=128 size=27 name=t\r\n=ypart begin=10 end=18\r\n\
+[\\]^_`abc\r\n=yend size=9 part=2 pcrc32=cbf43926\r\n",
+    ),
+    (
+        "d",
+        ONCE,
+        &["encode", "--input", "d", "--part-size", "9"],
+        b"=ybegin line=128 size=9 name=d\r\n[\\]^_`abc\r\n=yend size=9 crc32=cbf43926\r\n",
+    ),
+    (
+        "d",
+        ONCE,
+        &["encode", "--part", "2", "--part-size", "8", "--input", "d"],
+        b"=ybegin part=2 total=2 line=128 size=9 name=d\r\n=ypart begin=9 end=9\r\n\
+c\r\n=yend size=1 part=2 pcrc32=8d076785\r\n",
+    ),
+    (
+        "t",
+        THRICE,
+        &[
+            "encode",
+            "--name",
+            "a name",
+            "--input",
+            "t",
+            "--part-size",
+            "18",
+        ],
+        b"=ybegin part=1 total=2 line=128 size=27 name=a name\r\n=ypart begin=1 end=18\r\n\
+[\\]^_`abc[\\]^_`abc\r\n=yend size=18 part=1 pcrc32=4b837ae4\r\n",
+    ),
+    (
+        "e",
+        b"",
+        &["encode", "--input", "e", "--part-size", "1", "--part", "1"],
+        b"=ybegin line=128 size=0 name=e\r\n=yend size=0 crc32=00000000\r\n",
+    ),
+    (
+        "d/",
+        ONCE,
+        &["encode", "--input", "d/", "--name", "d"],
+        b"=ybegin line=128 size=9 name=d\r\n[\\]^_`abc\r\n=yend size=9 crc32=cbf43926\r\n",
+    ),
+];
+
 #[test]
 fn encodes_the_asked_part(rt: HostRuntime) {
-    let thrice = b"123456789123456789123456789".as_slice();
-    let once = b"123456789".as_slice();
-    let rows: [(&str, &[u8], &[&str], &[u8]); 6] = [
-        (
-            "t",
-            thrice,
-            &["encode", "--input", "t", "--part-size", "9", "--part", "2"],
-            b"=ybegin part=2 total=3 line=128 size=27 name=t\r\n=ypart begin=10 end=18\r\n\
-[\\]^_`abc\r\n=yend size=9 part=2 pcrc32=cbf43926\r\n",
-        ),
-        (
-            "d",
-            once,
-            &["encode", "--input", "d", "--part-size", "9"],
-            b"=ybegin line=128 size=9 name=d\r\n[\\]^_`abc\r\n=yend size=9 crc32=cbf43926\r\n",
-        ),
-        (
-            "d",
-            once,
-            &["encode", "--part", "2", "--part-size", "8", "--input", "d"],
-            b"=ybegin part=2 total=2 line=128 size=9 name=d\r\n=ypart begin=9 end=9\r\n\
-c\r\n=yend size=1 part=2 pcrc32=8d076785\r\n",
-        ),
-        (
-            "t",
-            thrice,
-            &[
-                "encode",
-                "--name",
-                "a name",
-                "--input",
-                "t",
-                "--part-size",
-                "18",
-            ],
-            b"=ybegin part=1 total=2 line=128 size=27 name=a name\r\n=ypart begin=1 end=18\r\n\
-[\\]^_`abc[\\]^_`abc\r\n=yend size=18 part=1 pcrc32=4b837ae4\r\n",
-        ),
-        (
-            "e",
-            b"",
-            &["encode", "--input", "e", "--part-size", "1", "--part", "1"],
-            b"=ybegin line=128 size=0 name=e\r\n=yend size=0 crc32=00000000\r\n",
-        ),
-        (
-            "d/",
-            once,
-            &["encode", "--input", "d/", "--name", "d"],
-            b"=ybegin line=128 size=9 name=d\r\n[\\]^_`abc\r\n=yend size=9 crc32=cbf43926\r\n",
-        ),
-    ];
-    for (name, content, words, text) in rows {
+    for (name, content, words, text) in PARTS {
         let input = input_of(&rt, name, content);
         let ran = run(&rt, words, input);
         ended(&rt, ran, 0, text, "");
@@ -136,7 +140,7 @@ fn begins<R: Abort>(rt: &R, ran: Ran, head: &[u8]) {
 
 #[test]
 fn reads_the_asked_part_alone(rt: HostRuntime) {
-    let input = SparseInput::new(500_000_000_000, 1_998_000_000, 2_000_000_000);
+    let input = PartialInput::sparse(500_000_000_000, 1_998_000_000, 2_000_000_000);
     let ran = run(
         &rt,
         &[
@@ -190,7 +194,7 @@ fn tells_a_fault_of_the_output(rt: HostRuntime) {
 
 #[test]
 fn names_the_place_of_a_short_read(rt: HostRuntime) {
-    let ran = run(&rt, &["encode", "--input", "d"], ShrunkInput::new(9, 4));
+    let ran = run(&rt, &["encode", "--input", "d"], PartialInput::shrunk(9, 4));
     ended(&rt, ran, 6, b"", "usebin: short 4\n");
 }
 
@@ -216,7 +220,7 @@ fn names_the_limit_that_is_passed(rt: HostRuntime) {
         ),
     ];
     for (size, part_size, part, line) in rows {
-        let input = ShrunkInput::new(size, 0);
+        let input = PartialInput::shrunk(size, 0);
         let words = [
             "encode",
             "--input",
@@ -236,7 +240,7 @@ fn names_the_place_of_a_short_read_in_a_part(rt: HostRuntime) {
     let ran = run(
         &rt,
         &["encode", "--input", "d", "--part-size", "4", "--part", "2"],
-        ShrunkInput::new(9, 6),
+        PartialInput::shrunk(9, 6),
     );
     ended(&rt, ran, 6, b"", "usebin: short 6\n");
 }

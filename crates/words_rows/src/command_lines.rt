@@ -1,7 +1,7 @@
 // Which word of a command line is the first that is refused.
 use crate::fixtures::words_of;
 use command_words::refused_word;
-use std::test::Fail;
+use std::process::Abort;
 
 // A name of 255 characters, the longest that a header takes.
 const LONGEST: &str =
@@ -11,8 +11,14 @@ const LONGEST: &str =
 const TOO_LONG: &str =
     "aaaaaaaaaaaaaaaaaaaaaaaaaaaaaaaaaaaaaaaaaaaaaaaaaaaaaaaaaaaaaaaaaaaaaaaaaaaaaaaaaaaaaaaaaaaaaaaaaaaaaaaaaaaaaaaaaaaaaaaaaaaaaaaaaaaaaaaaaaaaaaaaaaaaaaaaaaaaaaaaaaaaaaaaaaaaaaaaaaaaaaaaaaaaaaaaaaaaaaaaaaaaaaaaaaaaaaaaaaaaaaaaaaaaaaaaaaaaaaaaaaaaaaaaaaaaaaaa";
 
+// Asserts which word is the first that is refused, if one is.
+fn refuses<R: Abort + AllocGlobal>(rt: &R, words: &[&str], wanted: Option<u64>) {
+    let list = words_of(rt, words);
+    assert!(rt; refused_word(&list) == wanted, "{words:?}");
+}
+
 #[test]
-fn knows_each_command(rt: HostRuntime) -> Result<(), Fail> {
+fn knows_each_command(rt: HostRuntime) {
     let rows: [(&[&str], Option<u64>); 19] = [
         (&[], Some(1)),
         (&["verify"], Some(1)),
@@ -35,14 +41,12 @@ fn knows_each_command(rt: HostRuntime) -> Result<(), Fail> {
         (&["check", "--nzb", "a", "--input", "a"], Some(4)),
     ];
     for (words, number) in rows {
-        let words = words_of(rt.alloc(), words)?;
-        assert_eq!(rt; refused_word(&words), number);
+        refuses(&rt, words, number);
     }
-    Ok(())
 }
 
 #[test]
-fn takes_each_key_once_in_any_order(rt: HostRuntime) -> Result<(), Fail> {
+fn takes_each_key_once_in_any_order(rt: HostRuntime) {
     let rows: [(&[&str], Option<u64>); 6] = [
         (
             &[
@@ -70,14 +74,12 @@ fn takes_each_key_once_in_any_order(rt: HostRuntime) -> Result<(), Fail> {
         (&["decode", "--input", "d", "--line", "64"], Some(4)),
     ];
     for (words, number) in rows {
-        let words = words_of(rt.alloc(), words)?;
-        assert_eq!(rt; refused_word(&words), number);
+        refuses(&rt, words, number);
     }
-    Ok(())
 }
 
 #[test]
-fn judges_the_default_name_where_no_name_is_given(rt: HostRuntime) -> Result<(), Fail> {
+fn judges_the_default_name_where_no_name_is_given(rt: HostRuntime) {
     let rows: [(&[&str], Option<u64>); 8] = [
         (&["encode", "--input", ""], Some(3)),
         (&["encode", "--input", "d/"], Some(3)),
@@ -91,14 +93,12 @@ fn judges_the_default_name_where_no_name_is_given(rt: HostRuntime) -> Result<(),
         (&["encode", "--input", "d/", "--line", "--name"], Some(3)),
     ];
     for (words, number) in rows {
-        let words = words_of(rt.alloc(), words)?;
-        assert_eq!(rt; refused_word(&words), number);
+        refuses(&rt, words, number);
     }
-    Ok(())
 }
 
 #[test]
-fn takes_values_within_their_limits(rt: HostRuntime) -> Result<(), Fail> {
+fn takes_values_within_their_limits(rt: HostRuntime) {
     let rows: [(&str, &str, Option<u64>); 28] = [
         ("--name", "a", None),
         ("--name", "a b~", None),
@@ -130,8 +130,6 @@ fn takes_values_within_their_limits(rt: HostRuntime) -> Result<(), Fail> {
         ("--part", "18446744073709551617", Some(5)),
     ];
     for (key, value, number) in rows {
-        let words = words_of(rt.alloc(), &["encode", "--input", "d", key, value])?;
-        assert_eq!(rt; refused_word(&words), number, "{key} {value}");
+        refuses(&rt, &["encode", "--input", "d", key, value], number);
     }
-    Ok(())
 }

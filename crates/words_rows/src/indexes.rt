@@ -1,9 +1,8 @@
 // What the words behind `index` ask for, and which of them is the first that is refused. The first of these words is the
 // second of all.
-use crate::fixtures::words_of;
-use command_words::{Command, read_index, read_words, refused_word};
-use std::alloc::Global;
-use std::test::Fail;
+use crate::fixtures::{words_of, words_with};
+use command_words::{Command, IndexWords, read_index, read_words, refused_word};
+use std::process::Abort;
 
 // The keys that have to be there, with a value of each.
 const REQUIRED: [(&str, &str); 4] = [
@@ -13,87 +12,100 @@ const REQUIRED: [(&str, &str); 4] = [
     ("--last", "9"),
 ];
 
-// A pair, and then the pairs that have to be there of other keys than these two.
-fn words_with(alloc: Global, key: &str, value: &str, without: &str) -> Result<Vec<String>, Fail> {
-    let mut words = words_of(alloc, &[key, value])?;
-    for (other, given) in REQUIRED {
-        if other != key && other != without {
-            words.push(String::from_str(alloc, other)?)?;
-            words.push(String::from_str(alloc, given)?)?;
-        }
+// What `index` is asked for.
+#[derive(Clone, Copy)]
+struct Wanted<'a> {
+    server: &'a [u8],
+    group: &'a [u8],
+    first: u64,
+    last: u64,
+    patience: u32,
+    login: Option<&'a str>,
+}
+
+// Whether this is what `index` is asked for.
+fn is_asked(asked: &IndexWords<'_>, wanted: Wanted<'_>) -> bool {
+    asked.server == wanted.server
+        && asked.group.as_slice() == wanted.group
+        && asked.first == wanted.first
+        && asked.last == wanted.last
+        && asked.patience == wanted.patience
+        && asked.login == wanted.login
+}
+
+#[test]
+fn takes_what_has_to_be_there(rt: HostRuntime) {
+    let words = words_with(&rt, &REQUIRED, "--last", "9", "");
+    let wanted = Wanted {
+        server: b"news.example.org:119",
+        group: b"alt.binaries.test",
+        first: 5,
+        last: 9,
+        patience: 1500,
+        login: None,
+    };
+    match read_index(&words) {
+        Ok(asked) => assert!(rt; is_asked(&asked, wanted)),
+        Err(_) => rt.panic("the words are understood"),
     }
-    Ok(words)
 }
+
+const EACH_KEY: [&str; 13] = [
+    "index",
+    "--login",
+    "logins",
+    "--patience",
+    "7",
+    "--last",
+    "9999999999999999",
+    "--first",
+    "9999999990000000",
+    "--group",
+    "a+b-c_d.e",
+    "--server",
+    "h:1",
+];
 
 #[test]
-fn takes_what_has_to_be_there(rt: HostRuntime) -> Result<(), Fail> {
-    let words = words_with(rt.alloc(), "--last", "9", "")?;
-    let Ok(asked) = read_index(&words) else {
-        return Err("the words are understood".into());
+fn takes_each_key(rt: HostRuntime) {
+    let words = words_of(&rt, &EACH_KEY);
+    let wanted = Wanted {
+        server: b"h:1",
+        group: b"a+b-c_d.e",
+        first: 9_999_999_990_000_000,
+        last: 9_999_999_999_999_999,
+        patience: 7,
+        login: Some("logins"),
     };
-    assert_eq!(rt; asked.server, b"news.example.org:119".as_slice());
-    assert_eq!(rt; asked.group.as_slice(), b"alt.binaries.test".as_slice());
-    assert_eq!(rt; asked.first, 5);
-    assert_eq!(rt; asked.last, 9);
-    assert_eq!(rt; asked.patience, 1500);
-    assert!(rt; asked.login.is_none());
-    Ok(())
+    match read_words(&words) {
+        Ok(Command::Index(asked)) => assert!(rt; is_asked(&asked, wanted)),
+        _ => rt.panic("the words are understood"),
+    }
 }
 
-#[test]
-fn takes_each_key(rt: HostRuntime) -> Result<(), Fail> {
-    let words = words_of(
-        rt.alloc(),
-        &[
-            "index",
-            "--login",
-            "logins",
-            "--patience",
-            "7",
-            "--last",
-            "9999999999999999",
-            "--first",
-            "9999999990000000",
-            "--group",
-            "a+b-c_d.e",
-            "--server",
-            "h:1",
-        ],
-    )?;
-    let Ok(Command::Index(asked)) = read_words(&words) else {
-        return Err("the words are understood".into());
-    };
-    assert_eq!(rt; asked.server, b"h:1".as_slice());
-    assert_eq!(rt; asked.group.as_slice(), b"a+b-c_d.e".as_slice());
-    assert_eq!(rt; asked.first, 9_999_999_990_000_000);
-    assert_eq!(rt; asked.last, 9_999_999_999_999_999);
-    assert_eq!(rt; asked.patience, 7);
-    assert_eq!(rt; asked.login.unwrap_or(""), "logins");
-    Ok(())
-}
-
-// The number of the first refused word.
-fn refused(words: &[String]) -> Option<u64> {
-    match read_index(words) {
+// Asserts which word is the first that is refused, if one is.
+fn refuses<R: Abort>(rt: &R, words: Vec<String>, wanted: Option<u64>) {
+    let number = match read_index(&words) {
         Ok(_) => None,
         Err(number) => Some(number),
-    }
+    };
+    assert!(rt; number == wanted, "{words:?}");
 }
 
 #[test]
-fn a_key_that_has_to_be_there_is_missing(rt: HostRuntime) -> Result<(), Fail> {
+fn a_key_that_has_to_be_there_is_missing(rt: HostRuntime) {
     for (key, _) in REQUIRED {
-        let words = words_with(rt.alloc(), "--patience", "7", key)?;
-        assert_eq!(rt; refused(&words), Some(10), "{key}");
+        let words = words_with(&rt, &REQUIRED, "--patience", "7", key);
+        refuses(&rt, words, Some(10));
     }
-    assert_eq!(rt; refused(&words_of(rt.alloc(), &[])?), Some(2));
-    assert_eq!(rt; refused(&words_of(rt.alloc(), &["--first"])?), Some(3));
-    assert_eq!(rt; refused_word(&words_of(rt.alloc(), &["index"])?), Some(2));
-    Ok(())
+    refuses(&rt, words_of(&rt, &[]), Some(2));
+    refuses(&rt, words_of(&rt, &["--first"]), Some(3));
+    let words = words_of(&rt, &["index"]);
+    assert!(rt; refused_word(&words) == Some(2));
 }
 
 #[test]
-fn the_later_of_two_numbers_is_refused(rt: HostRuntime) -> Result<(), Fail> {
+fn the_later_of_two_numbers_is_refused(rt: HostRuntime) {
     let rows: [(&[&str], Option<u64>); 12] = [
         (&["--first", "5", "--last", "5"], Some(6)),
         (&["--first", "5", "--last", "4"], Some(5)),
@@ -111,13 +123,12 @@ fn the_later_of_two_numbers_is_refused(rt: HostRuntime) -> Result<(), Fail> {
         (&["--first", "5", "--last"], Some(5)),
     ];
     for (words, number) in rows {
-        assert_eq!(rt; refused(&words_of(rt.alloc(), words)?), number);
+        refuses(&rt, words_of(&rt, words), number);
     }
-    Ok(())
 }
 
 #[test]
-fn takes_values_by_their_rules(rt: HostRuntime) -> Result<(), Fail> {
+fn takes_values_by_their_rules(rt: HostRuntime) {
     let rows: [(&str, &str, Option<u64>); 27] = [
         ("--server", "h", Some(3)),
         ("--server", "127.0.0.1:1190", None),
@@ -150,8 +161,6 @@ fn takes_values_by_their_rules(rt: HostRuntime) -> Result<(), Fail> {
         ("--input", "d", Some(2)),
     ];
     for (key, value, number) in rows {
-        let words = words_with(rt.alloc(), key, value, "")?;
-        assert_eq!(rt; refused(&words), number, "{key} {value}");
+        refuses(&rt, words_with(&rt, &REQUIRED, key, value, ""), number);
     }
-    Ok(())
 }

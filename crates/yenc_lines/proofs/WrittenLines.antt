@@ -12,7 +12,7 @@ use Rattle.yenc_lines.specs.declared.keyword.EndLine.{EndLine}
 use Rattle.yenc_lines.specs.Keywords.{is_space, is_name, ybegin, yend, Item, items_in, items_of, begin_of, end_of, unless_fault, or_else, first_item_fault, missing_key, number_in, name_in}
 use Rattle.yenc_lines.specs.KeywordText.{item, begin_text, end_text}
 use Rattle.yenc_lines.specs.Name.{IsName}
-use Rattle.yenc_lines.specs.WrittenLines.{IsWithin}
+use Rattle.yenc_lines.specs.WrittenLines.{IsBetween}
 use Rattle.yenc_lines.proofs.HeaderNames.{header_name}
 use Rattle.yenc_lines.proofs.PartReads.{decimal_no_space}
 use Rattle.yenc_lines.proofs.SpacedItems.{HasNoSpace, spaced, piece_of, item_then, pieces_then, all_pieces, AllByRecursion-append}
@@ -46,19 +46,19 @@ header_spaced part total line size more =
     ∙ ap (λ (t : List ℕ). item (codes "part") decimal part ++ t) (item_then (codes "total") decimal total (piece_of (codes "line") decimal line ++ (piece_of (codes "size") decimal (Some size) ++ [])) more)
     ∙ item_then (codes "part") decimal part (piece_of (codes "total") decimal total ++ (piece_of (codes "line") decimal line ++ (piece_of (codes "size") decimal (Some size) ++ []))) more
 
-part_has_none : (n : Option ℕ) → IsWithin 1 4294967295 n → AllByRecursion HasNoSpace (piece_of (codes "part") decimal n)
+part_has_none : (n : Option ℕ) → IsBetween 1 4294967295 n → AllByRecursion HasNoSpace (piece_of (codes "part") decimal n)
 part_has_none None h = tt
 part_has_none (Some n) h = (decimal_no_space n (omega (arith, h)), tt)
 
-total_has_none : (n : Option ℕ) → IsWithin 0 4294967295 n → AllByRecursion HasNoSpace (piece_of (codes "total") decimal n)
+total_has_none : (n : Option ℕ) → IsBetween 0 4294967295 n → AllByRecursion HasNoSpace (piece_of (codes "total") decimal n)
 total_has_none None h = tt
 total_has_none (Some n) h = (decimal_no_space n (omega (arith, h)), tt)
 
-line_has_none : (n : Option ℕ) → IsWithin 0 4294967295 n → AllByRecursion HasNoSpace (piece_of (codes "line") decimal n)
+line_has_none : (n : Option ℕ) → IsBetween 0 4294967295 n → AllByRecursion HasNoSpace (piece_of (codes "line") decimal n)
 line_has_none None h = tt
 line_has_none (Some n) h = (decimal_no_space n (omega (arith, h)), tt)
 
-header_has_none : (part total line : Option ℕ) (size : ℕ) → IsWithin 1 4294967295 part → IsWithin 0 4294967295 total → IsWithin 0 4294967295 line → size ≤ MOST_FILE_BYTES →
+header_has_none : (part total line : Option ℕ) (size : ℕ) → IsBetween 1 4294967295 part → IsBetween 0 4294967295 total → IsBetween 0 4294967295 line → size ≤ MOST_FILE_BYTES →
     AllByRecursion HasNoSpace (header_pieces part total line size)
 header_has_none part total line size p t l s =
     AllByRecursion-append _ _ (part_has_none part p) (AllByRecursion-append _ _ (total_has_none total t) (AllByRecursion-append _ _ (line_has_none line l) (decimal_no_space size (omega arith), tt)))
@@ -82,7 +82,7 @@ Said items b =
     (record { part = number_in items key.Part; total = number_in items key.Total; line = number_in items key.Line; size = or_zero (number_in items key.Size); name = name_in items })
     ≡ Ok b
 
-header_said : (part total line : Option ℕ) (size : ℕ) (name : List ℕ) → IsWithin 1 4294967295 part → IsWithin 0 4294967295 total → IsWithin 0 4294967295 line → size ≤ MOST_FILE_BYTES → is_name name ≡ true →
+header_said : (part total line : Option ℕ) (size : ℕ) (name : List ℕ) → IsBetween 1 4294967295 part → IsBetween 0 4294967295 total → IsBetween 0 4294967295 line → size ≤ MOST_FILE_BYTES → is_name name ≡ true →
     (items : List Item) → items ≡ header_items part total line size (record { key = key.Name; value = name } ∷ []) → Said items (record { part = part; total = total; line = line; size = size; name = name })
 header_said None None None size name p t l s n items is = rw is (rw (is_within MOST_FILE_BYTES size (omega arith) (omega arith), n) refl)
 header_said None None (Some c) size name p t l s n items is = rw is (rw (is_within 4294967295 c l.1 (omega arith), is_within MOST_FILE_BYTES size (omega arith) (omega arith), n) refl)
@@ -99,7 +99,7 @@ begins None None (Some l) size name = refl
 begins None (Some t) line size name = refl
 begins (Some p) total line size name = refl
 
-pub header_read : (b : Begin) → IsWithin 1 4294967295 b.part → IsWithin 0 4294967295 b.total → IsWithin 0 4294967295 b.line → b.size ≤ MOST_FILE_BYTES → IsName b.name → begin_of (begin_text b) ≡ Ok b
+pub header_read : (b : Begin) → IsBetween 1 4294967295 b.part → IsBetween 0 4294967295 b.total → IsBetween 0 4294967295 b.line → b.size ≤ MOST_FILE_BYTES → IsName b.name → begin_of (begin_text b) ≡ Ok b
 unfolding begin_text
 header_read b p t l s n =
     let name = header_name b.name n in
@@ -142,7 +142,7 @@ crc32_has_none : (n : Option ℕ) → AllByRecursion HasNoSpace (piece_of (codes
 crc32_has_none None = tt
 crc32_has_none (Some n) = (hex32_no_space n, tt)
 
-trailer_has_none : (part pcrc32 crc32 : Option ℕ) → IsWithin 1 4294967295 part → AllByRecursion HasNoSpace (after_size part pcrc32 crc32)
+trailer_has_none : (part pcrc32 crc32 : Option ℕ) → IsBetween 1 4294967295 part → AllByRecursion HasNoSpace (after_size part pcrc32 crc32)
 trailer_has_none part pcrc32 crc32 p =
     AllByRecursion-append _ _ (part_has_none part p) (AllByRecursion-append _ _ (pcrc32_has_none pcrc32) (AllByRecursion-append _ _ (crc32_has_none crc32) tt))
 
@@ -165,7 +165,7 @@ TrailerSaid items e =
     (record { size = or_zero (number_in items key.Size); part = number_in items key.Part; pcrc32 = number_in items key.Pcrc32; crc32 = number_in items key.Crc32 })
     ≡ Ok e
 
-trailer_said : (size : ℕ) (part pcrc32 crc32 : Option ℕ) → IsWithin 1 4294967295 part → IsWithin 0 4294967295 pcrc32 → IsWithin 0 4294967295 crc32 → size ≤ MOST_FILE_BYTES →
+trailer_said : (size : ℕ) (part pcrc32 crc32 : Option ℕ) → IsBetween 1 4294967295 part → IsBetween 0 4294967295 pcrc32 → IsBetween 0 4294967295 crc32 → size ≤ MOST_FILE_BYTES →
     (items : List Item) → items ≡ trailer_items size part pcrc32 crc32 → TrailerSaid items (record { size = size; part = part; pcrc32 = pcrc32; crc32 = crc32 })
 trailer_said size None None None p q c s items is = rw is (rw (is_within MOST_FILE_BYTES size (omega arith) (omega arith)) refl)
 trailer_said size None None (Some z) p q c s items is = rw is (rw (is_within MOST_FILE_BYTES size (omega arith) (omega arith), hex32_read z (omega (arith, c))) refl)
@@ -176,7 +176,7 @@ trailer_said size (Some x) None (Some z) p q c s items is = rw is (rw (is_within
 trailer_said size (Some x) (Some y) None p q c s items is = rw is (rw (is_within MOST_FILE_BYTES size (omega arith) (omega arith), is_within_1 4294967295 x p.0 p.1 (omega arith), hex32_read y (omega (arith, q))) refl)
 trailer_said size (Some x) (Some y) (Some z) p q c s items is = rw is (rw (is_within MOST_FILE_BYTES size (omega arith) (omega arith), is_within_1 4294967295 x p.0 p.1 (omega arith), hex32_read y (omega (arith, q)), hex32_read z (omega (arith, c))) refl)
 
-pub trailer_read : (e : EndLine) → IsWithin 1 4294967295 e.part → IsWithin 0 4294967295 e.pcrc32 → IsWithin 0 4294967295 e.crc32 → e.size ≤ MOST_FILE_BYTES → end_of (end_text e) ≡ Ok e
+pub trailer_read : (e : EndLine) → IsBetween 1 4294967295 e.part → IsBetween 0 4294967295 e.pcrc32 → IsBetween 0 4294967295 e.crc32 → e.size ≤ MOST_FILE_BYTES → end_of (end_text e) ≡ Ok e
 unfolding end_text
 trailer_read e p q c s =
     let text : end_text e ≡ codes "=yend" ++ (item (codes "size") decimal (Some e.size) ++ spaced (after_size e.part e.pcrc32 e.crc32)) =

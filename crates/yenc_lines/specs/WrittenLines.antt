@@ -9,13 +9,13 @@ use Rattle.yenc_lines.specs.Keywords.{begin_of, part_of, end_of}
 use Rattle.limits.specs.declared.TheConstants.{MOST_FILE_BYTES}
 
 -- a number from `low` to `high`, where there is one
-abbrev pub IsWithin : ℕ → ℕ → Option ℕ → Type 0
-IsWithin low high None = Unit {0}
-IsWithin low high (Some n) = (low ≤ n) × (n ≤ high)
+abbrev pub IsBetween : ℕ → ℕ → Option ℕ → Type 0
+IsBetween low high None = Unit {0}
+IsBetween low high (Some n) = (low ≤ n) × (n ≤ high)
 
 -- a header line
 abbrev pub HeaderIsRead : Type 0
-HeaderIsRead = (b : Begin) → IsWithin 1 4294967295 b.part → IsWithin 0 4294967295 b.total → IsWithin 0 4294967295 b.line →
+HeaderIsRead = (b : Begin) → IsBetween 1 4294967295 b.part → IsBetween 0 4294967295 b.total → IsBetween 0 4294967295 b.line →
     b.size ≤ MOST_FILE_BYTES → IsName b.name → begin_of (begin_text b) ≡ Ok b
 
 -- a part line
@@ -24,5 +24,5 @@ PartLineIsRead = (p : PartLine) → 1 ≤ p.begin → p.begin ≤ MOST_FILE_BYTE
 
 -- a trailer line
 abbrev pub TrailerIsRead : Type 0
-TrailerIsRead = (e : EndLine) → IsWithin 1 4294967295 e.part → IsWithin 0 4294967295 e.pcrc32 → IsWithin 0 4294967295 e.crc32 →
+TrailerIsRead = (e : EndLine) → IsBetween 1 4294967295 e.part → IsBetween 0 4294967295 e.pcrc32 → IsBetween 0 4294967295 e.crc32 →
     e.size ≤ MOST_FILE_BYTES → end_of (end_text e) ≡ Ok e

@@ -2,7 +2,7 @@
 use Rattle.std.proofs.Common.{◌≡◌, ◌<◌, ◌≤◌, ℕ, List, length, take, ◌∙◌, refl, subst, arith}
 use Rattle.std.proofs.lemmas.List.{length-take-le}
 use Rattle.link_dialog.specs.declared.block.BlockStep.{BlockStep}
-use Rattle.link_dialog.specs.BlockReader.{Steps, Grows}
+use Rattle.link_dialog.specs.BlockReader.{BlockSteps, Grows}
 use Rattle.link_dialog.proofs.Hearings.{quiet_to_end, ended_to_end}
 use Rattle.link_dialog.proofs.BlockHearings.{new_piece_at, piece_more, block_quiet, falls_in_block}
 use Rattle.link_dialog.proofs.BlockAnswers.{answers_whole, answers_early, answers_too_long}
@@ -39,7 +39,7 @@ loop-len-preserved-in-More g c =
           (piece_some c.in-Bytes.len c.receive.new.buf c.loop-len.buf c.receive.auto.buf c.in-Bytes.ensures.count) in
           piece_more before (g.L.Links.trace c.receive.new.links) c.args.link c.args.patience c.args.kind c.args.code piece 0 s.block c.loop-len.reader c.step.new.self c.loop-len.block c.step.new.block
           c.requires.patient c.requires.block p.0 s.stands p.1
-          (subst (λ (t : BlockStep). Steps c.loop-len.reader c.loop-len.block c.step.new.self c.step.new.block s.block piece t) c.in-More.is (c.step.ensures.steps s.block));
+          (subst (λ (t : BlockStep). BlockSteps c.loop-len.reader c.loop-len.block c.step.new.self c.step.new.block s.block piece t) c.in-More.is (c.step.ensures.steps s.block));
     }
 
 pub returns-then-used-len-clause-heard : goal.returns-then-used-len-clause-heard
@@ -52,7 +52,7 @@ returns-then-used-len-clause-heard g c before begun =
     let all = c.if-used-len.true in
     answers_whole before (g.L.Links.trace c.receive.new.links) c.args.link c.args.patience c.args.kind c.args.code piece 0 s.block c.loop-len.reader c.step.new.self c.loop-len.block c.step.new.block c.in-End.used
     c.requires.patient c.requires.meant c.requires.block p.0 s.stands p.1
-    (subst (λ (t : BlockStep). Steps c.loop-len.reader c.loop-len.block c.step.new.self c.step.new.block s.block piece t) c.in-End.is (c.step.ensures.steps s.block))
+    (subst (λ (t : BlockStep). BlockSteps c.loop-len.reader c.loop-len.block c.step.new.self c.step.new.block s.block piece t) c.in-End.is (c.step.ensures.steps s.block))
     (omega (arith, long, all))
 
 pub returns-in-End-clause-heard : goal.returns-in-End-clause-heard
@@ -62,7 +62,7 @@ returns-in-End-clause-heard g c before begun =
     let long = piece_long c.in-Bytes.len c.receive.new.buf c.loop-len.buf c.receive.auto.buf c.in-Bytes.ensures.count in
     let p = new_piece_at before (g.L.Links.trace c.loop-len.links) (g.L.Links.trace c.receive.new.links) c.args.link c.args.patience c.args.kind c.args.code c.loop-len.reader c.loop-len.block c.loop-len.quiet piece s c.in-Bytes.ensures.trace
     (piece_some c.in-Bytes.len c.receive.new.buf c.loop-len.buf c.receive.auto.buf c.in-Bytes.ensures.count) in
-    let steps = subst (λ (t : BlockStep). Steps c.loop-len.reader c.loop-len.block c.step.new.self c.step.new.block s.block piece t) c.in-End.is (c.step.ensures.steps s.block) in
+    let steps = subst (λ (t : BlockStep). BlockSteps c.loop-len.reader c.loop-len.block c.step.new.self c.step.new.block s.block piece t) c.in-End.is (c.step.ensures.steps s.block) in
     let other = c.if-used-len.false in
     let fits = (steps s.stands).1 in
     answers_early before (g.L.Links.trace c.receive.new.links) c.args.link c.args.patience c.args.kind c.args.code piece 0 s.block c.loop-len.reader c.step.new.self c.loop-len.block c.step.new.block c.in-End.used
@@ -77,7 +77,7 @@ returns-in-TooLong-clause-heard g c before begun =
     (piece_some c.in-Bytes.len c.receive.new.buf c.loop-len.buf c.receive.auto.buf c.in-Bytes.ensures.count) in
     answers_too_long before (g.L.Links.trace c.receive.new.links) c.args.link c.args.patience c.args.kind c.args.code piece 0 s.block c.loop-len.reader c.step.new.self c.loop-len.block c.step.new.block
     c.requires.patient c.requires.block p.0 s.stands p.1
-    (subst (λ (t : BlockStep). Steps c.loop-len.reader c.loop-len.block c.step.new.self c.step.new.block s.block piece t) c.in-TooLong.is (c.step.ensures.steps s.block))
+    (subst (λ (t : BlockStep). BlockSteps c.loop-len.reader c.loop-len.block c.step.new.self c.step.new.block s.block piece t) c.in-TooLong.is (c.step.ensures.steps s.block))
 
 pub loop-len-smaller-in-More : goal.loop-len-smaller-in-More
 loop-len-smaller-in-More g c =

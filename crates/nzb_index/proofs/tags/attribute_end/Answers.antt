@@ -2,7 +2,7 @@ use Rattle.std.proofs.Common.{sym, ◌∙◌, arith, ◌<◌}
 use Rattle.std.proofs.lemmas.Bool.{not-false, not-true}
 use Rattle.std.proofs.lemmas.Result.{err_from_is_err_and}
 use Rattle.nzb_index.specs.Tags.{attributes_of, checks_of}
-use Rattle.nzb_index.proofs.TagEnds.{Named, Valued, has_place, attribute_double, attribute_equals_fails, attribute_value_fails, attribute_bad, attribute_reads}
+use Rattle.nzb_index.proofs.TagEnds.{Named, valued_at, has_place, attribute_double, attribute_equals_fails, attribute_value_fails, attribute_bad, attribute_reads}
 use Rattle.nzb_index.proofs.tags.attribute_end.Goals as goal
 
 pub returns-then-not-new-clause-read : goal.returns-then-not-new-clause-read
@@ -21,34 +21,14 @@ returns-in_err-equals-clause-read c =
 pub returns-in_err-end-clause-read : goal.returns-in_err-end-clause-read
 returns-in_err-end-clause-read c =
     let p = err_from_is_err_and c.from_residual-in_err-end.result c.from_residual-in_err-end.ensures.1 in
-    let n = c.in_ok-name.ensures in
-    let is_named : Named c.args.text.now c.args.at c.in_ok-name.name = record { behind = n.0; within = n.1; read = n.2 } in
-    let q = c.in_ok-equals.ensures in
-    let there : Valued (attributes_of c.args.scratch.now.names c.args.scratch.now.values) c.args.text.now c.args.at c.in_ok-name.name c.white_end-2.result = record {
-      is_named = is_named;
-      is_new = (has_place _ c.args.scratch.now.names c.args.scratch.now.values c.requires.pairs ∙ not-true _ (sym c.in_ok-new.ensures.new ∙ c.if-not-new.false));
-      here = c.white_end.result;
-      equals = c.in_ok-equals.equals;
-      no_white = c.white_end.ensures.white;
-      read = q.2;
-      place_is = c.white_end-2.ensures.white;
-    } in
+    let there = valued_at c.args.scratch.now.names c.args.scratch.now.values c.args.text.now c.args.at c.in_ok-name.name c.white_end.result c.in_ok-equals.equals c.white_end-2.result _ c.requires.pairs c.in_ok-name.ensures c.in_ok-new.ensures.new c.if-not-new.false
+    c.white_end.ensures.white c.in_ok-equals.ensures.2 c.white_end-2.ensures.white in
     rw (p.1, p.2) (attribute_value_fails (checks_of c.args.element) (attributes_of c.args.scratch.now.names c.args.scratch.now.values) c.args.text.now c.args.at c.in_ok-name.name c.white_end-2.result c.in_err-end.field-0.0 there c.in_err-end.ensures)
 
 pub returns-then-not-allows-clause-read : goal.returns-then-not-allows-clause-read
 returns-then-not-allows-clause-read c =
-    let n = c.in_ok-name.ensures in
-    let is_named : Named c.args.text.now c.args.at c.in_ok-name.name = record { behind = n.0; within = n.1; read = n.2 } in
-    let q = c.in_ok-equals.ensures in
-    let there : Valued (attributes_of c.args.scratch.now.names c.args.scratch.now.values) c.args.text.now c.args.at c.in_ok-name.name c.white_end-2.result = record {
-      is_named = is_named;
-      is_new = (has_place _ c.args.scratch.now.names c.args.scratch.now.values c.requires.pairs ∙ not-true _ (sym c.in_ok-new.ensures.new ∙ c.if-not-new.false));
-      here = c.white_end.result;
-      equals = c.in_ok-equals.equals;
-      no_white = c.white_end.ensures.white;
-      read = q.2;
-      place_is = c.white_end-2.ensures.white;
-    } in
+    let there = valued_at c.args.scratch.now.names c.args.scratch.now.values c.args.text.now c.args.at c.in_ok-name.name c.white_end.result c.in_ok-equals.equals c.white_end-2.result _ c.requires.pairs c.in_ok-name.ensures c.in_ok-new.ensures.new c.if-not-new.false
+    c.white_end.ensures.white c.in_ok-equals.ensures.2 c.white_end-2.ensures.white in
     let v = c.in_ok-end.ensures in
     let s = c.as_slice.ensures in
     let a = c.allows.ensures in
@@ -58,17 +38,9 @@ returns-then-not-allows-clause-read c =
 pub returns-clause-read : goal.returns-clause-read
 returns-clause-read c =
     let n = c.in_ok-name.ensures in
-    let is_named : Named c.args.text.now c.args.at c.in_ok-name.name = record { behind = n.0; within = n.1; read = n.2 } in
     let q = c.in_ok-equals.ensures in
-    let there : Valued (attributes_of c.args.scratch.now.names c.args.scratch.now.values) c.args.text.now c.args.at c.in_ok-name.name c.white_end-2.result = record {
-      is_named = is_named;
-      is_new = (has_place _ c.args.scratch.now.names c.args.scratch.now.values c.requires.pairs ∙ not-true _ (sym c.in_ok-new.ensures.new ∙ c.if-not-new.false));
-      here = c.white_end.result;
-      equals = c.in_ok-equals.equals;
-      no_white = c.white_end.ensures.white;
-      read = q.2;
-      place_is = c.white_end-2.ensures.white;
-    } in
+    let there = valued_at c.args.scratch.now.names c.args.scratch.now.values c.args.text.now c.args.at c.in_ok-name.name c.white_end.result c.in_ok-equals.equals c.white_end-2.result _ c.requires.pairs c.in_ok-name.ensures c.in_ok-new.ensures.new c.if-not-new.false
+    c.white_end.ensures.white c.in_ok-equals.ensures.2 c.white_end-2.ensures.white in
     let v = c.in_ok-end.ensures in
     let s = c.as_slice.ensures in
     let s2 = c.as_slice-2.ensures in

@@ -3,7 +3,7 @@ use Rattle.std.proofs.Common.{inr, refl, subst, sym}
 use Rattle.std.specs.Option.{option_copied}
 use Rattle.nntp_lines.specs.declared.why.Why.{Why}
 use Rattle.link_dialog.specs.Talk.{Start}
-use Rattle.overview_index.specs.Session.{Query, WasOver, lines_in, overs_in}
+use Rattle.overview_index.specs.Session.{Query, IndexWasOver, lines_in, overs_in}
 use Rattle.overview_index.proofs.SessionSteps.{opens, opening_over, chosen_begins, has_index, has_none}
 use Rattle.overview_index.proofs.session.run_index.Goals as goal
 
@@ -11,7 +11,7 @@ pub returns-in-Err-Over-clause-ends : goal.returns-in-Err-Over-clause-ends
 returns-in-Err-Over-clause-ends g c =
     let q : Query = record { group = c.args.group.now; first = c.args.first; last = c.args.last; patience = c.args.patience } in
     let start : Start = record { before = g.L.Links.trace c.args.links.now; address = c.args.address.now; login = option_copied c.args.login } in
-    subst (λ (reason : Why). WasOver q start (g.L.Links.trace c.open.new.links) reason) (sym c.in-Err-Over.why-is)
+    subst (λ (reason : Why). IndexWasOver q start (g.L.Links.trace c.open.new.links) reason) (sym c.in-Err-Over.why-is)
     (opening_over q start (g.L.Links.trace c.open.new.links) c.in-Err-Over.why (rw c.in-Err-Over.field-0-is at c.in-Err-Over.ensures.over))
 
 pub returns-in-Err-index_ranges-clause-ends : goal.returns-in-Err-index_ranges-clause-ends

@@ -1,7 +1,7 @@
 -- All parts in turn, and QUIT behind them.
 use Rattle.std.proofs.Common.{◌-◌, ℕ, length, arith, subst, sym, refl}
 use Rattle.poster.specs.Said.{blocks_of, messages_of}
-use Rattle.poster.specs.Posting.{HasEnded, UnderWay}
+use Rattle.poster.specs.Posting.{PostingEnded, UnderWay}
 use Rattle.poster.proofs.DeskLemmas.{some_part}
 use Rattle.poster.proofs.PlanLaws.{count_of_parts}
 use Rattle.poster.proofs.SessionSteps.{all_quit, part_stopped}
@@ -31,7 +31,7 @@ loop-end-init g c = record {
 pub returns-in-Some-clause-ends : goal.returns-in-Some-clause-ends
 returns-in-Some-clause-ends g c start u =
     let before = subst (λ (n : ℕ). UnderWay c.args.settings.now c.args.plan.now.size n (g.I.Input.content c.args.input.now) start (g.L.Links.trace c.loop-end.links) c.args.dialog (c.loop-end.part - 1) c.loop-end.sent) (sym c.loop-end.invariant.all) (c.loop-end.invariant.under_way start u) in
-    subst (λ (n : ℕ). HasEnded c.args.settings.now c.args.plan.now.size n (g.I.Input.content c.args.input.now) start (g.L.Links.trace c.post_part.new.links) c.post_part.new.sent c.in-Some.end) c.loop-end.invariant.all
+    subst (λ (n : ℕ). PostingEnded c.args.settings.now c.args.plan.now.size n (g.I.Input.content c.args.input.now) start (g.L.Links.trace c.post_part.new.links) c.post_part.new.sent c.in-Some.end) c.loop-end.invariant.all
     (c.in-Some.ensures.ends c.args.settings.now c.args.plan.now.size (g.I.Input.content c.args.input.now) start before c.loop-end.invariant.made)
 
 pub returns-then-part-total-clause-ends : goal.returns-then-part-total-clause-ends

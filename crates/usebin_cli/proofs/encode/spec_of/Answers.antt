@@ -12,7 +12,7 @@ pub returns : goal.returns
 returns c =
     let asked = asked_of c.args.asked in
     let total = c.parts_of-parts.ensures in
-    let parts : parts_of c.args.size asked.part_size ≤ MOST_SEGMENTS = omega (arith, total, c.if-parts.false) in
+    let parts : parts_of c.args.size asked.part_size ≤ MOST_SEGMENTS = omega (arith, total) in
     let there : asked.part ≤ parts_of c.args.size asked.part_size = omega (arith, total, c.if-asked-total.false) in
     let spec_is : record { name = asked.name; part = asked.part; total = c.parts_of-parts.result; first = c.from.result * c.from-2.result + 1; size = c.args.size; line = asked.line } ≡ part_spec asked c.args.size =
     rw (c.parts_of-parts.ensures, c.from.ensures, c.from-2.ensures) in (

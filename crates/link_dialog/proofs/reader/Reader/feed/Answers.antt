@@ -1,14 +1,14 @@
 -- Byte by byte, up to the end of the line.
 use Rattle.std.proofs.Common.{List, ℕ, sym, arith, refl, subst, append-nil}
 use Rattle.link_dialog.specs.declared.reader.Step.TheVariants.{More, Line, Over}
-use Rattle.link_dialog.specs.Reader.{StandsFor}
+use Rattle.link_dialog.specs.Reader.{HoldsRest}
 use Rattle.link_dialog.proofs.Feeding.{step_in_piece, line_goes_on_in, line_ends_in, all_listened, all_stands, nothing_yet, line_ended_at, link_ended_at}
 use Rattle.link_dialog.proofs.reader.Reader.feed.Goals as goal
 
 pub loop-i-init : goal.loop-i-init
 loop-i-init c = record {
   grew = omega arith;
-  stands = λ rest stands. subst (λ (r : List ℕ). StandsFor c.args.self.now r) (sym (append-nil rest)) stands;
+  stands = λ rest stands. subst (λ (r : List ℕ). HoldsRest c.args.self.now r) (sym (append-nil rest)) stands;
   fed = λ p link asked m replies rest some stands listening. nothing_yet p link asked m replies c.args.kind rest listening;
 }
 

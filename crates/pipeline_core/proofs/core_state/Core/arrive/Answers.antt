@@ -1,12 +1,12 @@
-use Rattle.std.proofs.Common.{◌≡◌, ◌<◌, ◌∙◌, ℕ, List, Option, sym, ap, Some, None, false, length, arith, subst, refl, set}
+use Rattle.std.proofs.Common.{◌≡◌, ◌<◌, ◌∙◌, List, sym, ap, Some, None, false, length, subst, refl, set}
 use Rattle.std.specs.Prelude.{slice_get}
 use Rattle.std.proofs.lemmas.Option.{slice_get_read}
 use Rattle.pipeline_core.specs.SegmentAt.{SegmentAt}
 use Rattle.pipeline_core.specs.Links.{holder}
 use Rattle.pipeline_core.specs.PipelineAt.{Pipeline}
-use Rattle.pipeline_core.specs.Pipeline.{after_settling, with_arrival}
+use Rattle.pipeline_core.specs.Pipeline.{after_settling}
 use Rattle.pipeline_core.specs.Searches.{is_arrived_at}
-use Rattle.pipeline_core.specs.Sound.{IsSound}
+use Rattle.pipeline_core.specs.Sound.{AreSoundLists}
 use Rattle.pipeline_core.proofs.Calls.{sound-settling, view-settling}
 use Rattle.pipeline_core.proofs.Placed.{placed-as, placed-settling}
 use Rattle.pipeline_core.proofs.core_state.Core.arrive.Goals as goal
@@ -22,7 +22,7 @@ invariant_of-self c =
     let waited : c.first_to_come-self-inside.result < length (after_settling p c.args.segment).segments → is_arrived_at (slice_get (after_settling p c.args.segment).segments c.first_to_come-self-inside.result) ≡ false =
     subst (λ (ss : List SegmentAt). c.first_to_come-self-inside.result < length ss → is_arrived_at (slice_get ss c.first_to_come-self-inside.result) ≡ false) segments c.first_to_come-self-inside.ensures.waited in
     record {
-      sound = subst (λ (s : SegmentAt). IsSound p.links (set p.segments c.args.segment s) c.self.inside.holders.items p.levels p.depth) (sym c.arrive.ensures)
+      sound = subst (λ (s : SegmentAt). AreSoundLists p.links (set p.segments c.args.segment s) c.self.inside.holders.items p.levels p.depth) (sym c.arrive.ensures)
           (sound-settling p.links p.segments c.self.inside.holders.items p.levels p.depth c.args.segment c.index_mut.result.now c.self.invariant.sound there unheld);
       placed = placed-as view refl refl refl
           (placed-settling p c.args.segment c.index_mut.result.now c.self.inside.places.lows c.self.inside.places.fresh c.first_to_come-self-inside.result c.self.inside.places.decided there unheld c.first_to_come-self-inside.ensures.onward waited c.self.invariant.placed);

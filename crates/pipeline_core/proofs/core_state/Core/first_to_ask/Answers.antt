@@ -1,9 +1,8 @@
-use Rattle.std.proofs.Common.{◌≡◌, ◌<◌, ◌∙◌, ◌+◌, ◌-◌, Some, length, sym, ap, subst, refl, arith, get_or}
-use Rattle.std.specs.Prelude.{slice_get}
-use Rattle.std.proofs.lemmas.Option.{slice_get-get_or}
+use Rattle.std.proofs.Common.{◌≡◌, ◌∙◌, ◌+◌, ◌-◌, length, sym, ap, refl, arith, get_or}
 use Rattle.pipeline_core.specs.PipelineAt.{Pipeline}
 use Rattle.pipeline_core.specs.Searches.{first_from}
 use Rattle.pipeline_core.specs.Pipeline.{can_be_asked}
+use Rattle.pipeline_core.proofs.CallReads.{low_read}
 use Rattle.pipeline_core.proofs.Placed.{window-found, whole-found}
 use Rattle.pipeline_core.proofs.core_state.Core.first_to_ask.Goals as goal
 
@@ -11,8 +10,7 @@ pub returns-then-self-segments : goal.returns-then-self-segments
 returns-then-self-segments c =
     let p : Pipeline = record { links = c.self.inside.links.items; segments = c.self.inside.segments.items; levels = c.self.inside.levels.items; depth = c.self.inside.depth } in
     let is : p ≡ c.args.self.now = c.self.view_is in
-    let server : c.args.server < length p.levels = subst (λ (q : Pipeline). c.args.server < length q.levels) (sym is) c.requires.server in
-    let read : slice_get c.self.inside.places.lows c.args.server ≡ Some (get_or c.self.inside.places.lows c.args.server 0) = slice_get-get_or c.self.inside.places.lows c.args.server 0 (omega (arith, server, c.self.invariant.sound.limited.few_servers, c.self.invariant.placed.as_many)) in
+    let read = low_read c.args.server c.self.inside.places.lows c.self.inside.places.fresh c.self.inside.places.decided c.self.view_is c.requires.server c.self.invariant.sound.limited.few_servers c.self.invariant.placed in
     let segments : c.len-segments.result ≡ length p.segments = c.len-segments.ensures ∙ c.self.inside.segments.ok.0 in
     let low = get_or c.self.inside.places.lows c.args.server 0 in
     c.first_between.ensures
@@ -24,8 +22,7 @@ pub returns-else-self-segments : goal.returns-else-self-segments
 returns-else-self-segments c =
     let p : Pipeline = record { links = c.self.inside.links.items; segments = c.self.inside.segments.items; levels = c.self.inside.levels.items; depth = c.self.inside.depth } in
     let is : p ≡ c.args.self.now = c.self.view_is in
-    let server : c.args.server < length p.levels = subst (λ (q : Pipeline). c.args.server < length q.levels) (sym is) c.requires.server in
-    let read : slice_get c.self.inside.places.lows c.args.server ≡ Some (get_or c.self.inside.places.lows c.args.server 0) = slice_get-get_or c.self.inside.places.lows c.args.server 0 (omega (arith, server, c.self.invariant.sound.limited.few_servers, c.self.invariant.placed.as_many)) in
+    let read = low_read c.args.server c.self.inside.places.lows c.self.inside.places.fresh c.self.inside.places.decided c.self.view_is c.requires.server c.self.invariant.sound.limited.few_servers c.self.invariant.placed in
     let segments : c.len-segments.result ≡ length p.segments = c.len-segments.ensures ∙ c.self.inside.segments.ok.0 in
     let low = get_or c.self.inside.places.lows c.args.server 0 in
     c.first_between-else-self-segments.ensures

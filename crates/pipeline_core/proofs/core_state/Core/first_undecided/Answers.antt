@@ -1,9 +1,9 @@
 use Rattle.std.proofs.Common.{◌≡◌, ◌<◌, ◌∙◌, ℕ, true, length, sym, ap, subst, refl, arith, inl, inr}
+use Rattle.std.proofs.lemmas.Bool.{cases_eq}
 use Rattle.pipeline_core.specs.declared.state.SegmentState.{SegmentState}
 use Rattle.pipeline_core.specs.declared.state.SegmentState.TheVariants.{Open, Outstanding, Arrived, Exhausted}
 use Rattle.pipeline_core.specs.PipelineAt.{Pipeline}
 use Rattle.pipeline_core.specs.Pipeline.{is_decided, segment_state}
-use Rattle.pipeline_core.proofs.OnePlace.{same_or_not}
 use Rattle.pipeline_core.proofs.core_state.Core.first_undecided.Goals as goal
 
 done_by : (state : SegmentState) → (state ≡ Open → ⊥) → ((link : ℕ) → state ≡ Outstanding link → ⊥) → is_decided state ≡ true
@@ -26,7 +26,7 @@ loop-segment-preserved c =
     let done : is_decided (segment_state c.args.self.now c.loop-segment.segment) ≡ true = ap is_decided (sym c.state.ensures.state) ∙ done_by c.state.result c.in_default.not-Open c.in_default.not-Outstanding in
     record {
       end = c.loop-segment.invariant.end;
-      all = λ s below. elim (same_or_not s c.loop-segment.segment) [
+      all = λ s below. elim (cases_eq s c.loop-segment.segment) [
         | inl e ↦ ap (λ n. is_decided (segment_state c.args.self.now n)) e ∙ done
         | inr other ↦ c.loop-segment.invariant.all s (omega (arith, other, below))
       ];

@@ -3,7 +3,7 @@ use Rattle.pipeline_core.specs.SegmentAt.{SegmentAt}
 use Rattle.pipeline_core.specs.LinkAt.{LinkAt}
 use Rattle.pipeline_core.specs.Links.{fresh_link}
 use Rattle.pipeline_core.specs.Pipeline.{unanswered, start}
-use Rattle.pipeline_core.specs.Sound.{IsSound}
+use Rattle.pipeline_core.specs.Sound.{AreSoundLists}
 use Rattle.std.proofs.Common.{rules}
 use Rattle.pipeline_core.proofs.Calls.{sound-start}
 use Rattle.pipeline_core.proofs.Placed.{placed-as, placed-start}
@@ -28,10 +28,10 @@ invariant_of-result c =
     ∙ ap (λ (vs : List ℕ). record { links = map fresh_link c.args.server_of_link.now; segments = replicate c.args.segments unanswered; levels = vs; depth = c.args.depth }) levels in
     record {
       sound =
-          subst (λ (vs : List ℕ). IsSound c.loop-server.links.items c.in_ok-vec.field-0.items c.in_ok-vec-2.field-0.items vs c.args.depth) (sym levels)
-          (subst (λ (ls : List LinkAt). IsSound ls c.in_ok-vec.field-0.items c.in_ok-vec-2.field-0.items c.args.level_of_server.now c.args.depth) (sym links)
-          (subst (λ (ss : List SegmentAt). IsSound (map fresh_link c.args.server_of_link.now) ss c.in_ok-vec-2.field-0.items c.args.level_of_server.now c.args.depth) (sym segments)
-          (subst (λ (hs : List (Option ℕ)). IsSound (map fresh_link c.args.server_of_link.now) (replicate c.args.segments unanswered) hs c.args.level_of_server.now c.args.depth) (sym holders)
+          subst (λ (vs : List ℕ). AreSoundLists c.loop-server.links.items c.in_ok-vec.field-0.items c.in_ok-vec-2.field-0.items vs c.args.depth) (sym levels)
+          (subst (λ (ls : List LinkAt). AreSoundLists ls c.in_ok-vec.field-0.items c.in_ok-vec-2.field-0.items c.args.level_of_server.now c.args.depth) (sym links)
+          (subst (λ (ss : List SegmentAt). AreSoundLists (map fresh_link c.args.server_of_link.now) ss c.in_ok-vec-2.field-0.items c.args.level_of_server.now c.args.depth) (sym segments)
+          (subst (λ (hs : List (Option ℕ)). AreSoundLists (map fresh_link c.args.server_of_link.now) (replicate c.args.segments unanswered) hs c.args.level_of_server.now c.args.depth) (sym holders)
           (sound-start c.args.server_of_link.now c.args.level_of_server.now c.args.segments c.args.depth c.requires.servers c.requires.links c.requires.segments c.requires.depth c.requires.each))));
       placed = placed-as view c.new-2.ensures.lows c.new-2.ensures.fresh c.new-2.ensures.decided (placed-start c.args.server_of_link.now c.args.level_of_server.now c.args.segments c.args.depth);
     }

@@ -1,11 +1,10 @@
-use Rattle.std.proofs.Common.{◌≡◌, ◌<◌, ◌∙◌, true, List, Some, length, sym, ap, refl, arith}
-use Rattle.std.specs.Prelude.{slice_get}
-use Rattle.std.proofs.lemmas.Option.{slice_get_read}
+use Rattle.std.proofs.Common.{◌∙◌, List, length, ap, refl, arith}
 use Rattle.range_assembler.specs.declared.assembler.Entry.{Entry}
 use Rattle.range_assembler.specs.declared.assembler.Hold.TheVariants.{Free}
 use Rattle.range_assembler.specs.Entries.{with_hold}
-use Rattle.range_assembler.specs.Claims.{is_held_entry, is_held}
-use Rattle.range_assembler.proofs.Holds.{set-edit, place_within}
+use Rattle.range_assembler.specs.Claims.{is_held_entry}
+use Rattle.range_assembler.proofs.EntryRead.{entry_read}
+use Rattle.range_assembler.proofs.Holds.{set-edit}
 use Rattle.range_assembler.proofs.Kept.{few, inside_release, segments_known, index-release}
 use Rattle.range_assembler.proofs.Gapped.{gapped-same, held_only}
 use Rattle.range_assembler.proofs.assembler.Assembler.release.Goals as goal
@@ -16,12 +15,8 @@ place-place-requires c =
 
 pub take_out-requires-clause-place : goal.take_out-requires-clause-place
 take_out-requires-clause-place c =
-    let is : c.self.inside.entries.items ≡ c.args.self.now = c.self.view_is in
-    let holds : is_held_entry (slice_get c.self.inside.entries.items c.args.segment) ≡ true = ap (λ (t : List Entry). is_held_entry (slice_get t c.args.segment)) is ∙ c.requires in
-    let within : c.args.segment < length c.self.inside.entries.items = place_within is_held_entry c.self.inside.entries.items c.args.segment refl holds in
-    let read : slice_get c.self.inside.entries.items c.args.segment ≡ Some c.index-entry.result.now = slice_get_read c.self.inside.entries.items (length c.self.inside.entries.items) c.args.segment c.index-entry.result.now refl within c.index-entry.ensures in
-    let held : is_held c.index-entry.result.now.hold ≡ true = ap is_held_entry (sym read) ∙ holds in
-    λ test. inside_release c.self.inside.entries.items c.self.inside.order c.self.inside.sizes.items c.args.segment c.place-place.result c.index-entry.result.now c.self.invariant.0 read held c.place-place.ensures test
+    let read = entry_read is_held_entry c.self.inside.entries.items c.args.self.now c.args.segment c.index-entry.result.now refl c.self.view_is c.requires c.index-entry.ensures in
+    λ test. inside_release c.self.inside.entries.items c.self.inside.order c.self.inside.sizes.items c.args.segment c.place-place.result c.index-entry.result.now c.self.invariant.0 read.there read.passes c.place-place.ensures test
 
 pub take_out-requires-clause-few : goal.take_out-requires-clause-few
 take_out-requires-clause-few c =
@@ -33,21 +28,13 @@ take_out-requires-clause-known c =
 
 pub invariant_of-self : goal.invariant_of-self
 invariant_of-self c =
-    let is : c.self.inside.entries.items ≡ c.args.self.now = c.self.view_is in
-    let holds : is_held_entry (slice_get c.self.inside.entries.items c.args.segment) ≡ true = ap (λ (t : List Entry). is_held_entry (slice_get t c.args.segment)) is ∙ c.requires in
-    let within : c.args.segment < length c.self.inside.entries.items = place_within is_held_entry c.self.inside.entries.items c.args.segment refl holds in
-    let read : slice_get c.self.inside.entries.items c.args.segment ≡ Some c.index-entry.result.now = slice_get_read c.self.inside.entries.items (length c.self.inside.entries.items) c.args.segment c.index-entry.result.now refl within c.index-entry.ensures in
-    let held : is_held c.index-entry.result.now.hold ≡ true = ap is_held_entry (sym read) ∙ holds in (
-      index-release c.self.inside.entries.items c.self.inside.order c.take_out.new.order c.self.inside.sizes.items c.args.segment c.place-place.result c.index-entry.result.now c.self.invariant.0 read held c.place-place.ensures c.take_out.ensures.ranges c.take_out.ensures.sides,
-      gapped-same c.self.inside.entries.items c.self.inside.gaps c.args.segment (length c.self.inside.sizes.items) c.index-entry.result.now _ c.self.invariant.1 read (held_only c.index-entry.result.now.hold held).1 refl,
+    let read = entry_read is_held_entry c.self.inside.entries.items c.args.self.now c.args.segment c.index-entry.result.now refl c.self.view_is c.requires c.index-entry.ensures in (
+      index-release c.self.inside.entries.items c.self.inside.order c.take_out.new.order c.self.inside.sizes.items c.args.segment c.place-place.result c.index-entry.result.now c.self.invariant.0 read.there read.passes c.place-place.ensures c.take_out.ensures.ranges c.take_out.ensures.sides,
+      gapped-same c.self.inside.entries.items c.self.inside.gaps c.args.segment (length c.self.inside.sizes.items) c.index-entry.result.now _ c.self.invariant.1 read.there (held_only c.index-entry.result.now.hold read.passes).1 refl,
     )
 
 pub returns : goal.returns
 returns c =
-    let is : c.self.inside.entries.items ≡ c.args.self.now = c.self.view_is in
-    let holds : is_held_entry (slice_get c.self.inside.entries.items c.args.segment) ≡ true = ap (λ (t : List Entry). is_held_entry (slice_get t c.args.segment)) is ∙ c.requires in
-    let within : c.args.segment < length c.self.inside.entries.items = place_within is_held_entry c.self.inside.entries.items c.args.segment refl holds in
-    let read : slice_get c.self.inside.entries.items c.args.segment ≡ Some c.index-entry.result.now = slice_get_read c.self.inside.entries.items (length c.self.inside.entries.items) c.args.segment c.index-entry.result.now refl within c.index-entry.ensures in
-    let held : is_held c.index-entry.result.now.hold ≡ true = ap is_held_entry (sym read) ∙ holds in
-    set-edit c.self.inside.entries.items c.args.segment (λ e. record { file = e.file; hold = Free; first = e.first; last = e.last }) c.index-entry.result.now read
-    ∙ ap (λ (t : List Entry). with_hold c.args.segment Free t) is
+    let read = entry_read is_held_entry c.self.inside.entries.items c.args.self.now c.args.segment c.index-entry.result.now refl c.self.view_is c.requires c.index-entry.ensures in
+    set-edit c.self.inside.entries.items c.args.segment (λ e. record { file = e.file; hold = Free; first = e.first; last = e.last }) c.index-entry.result.now read.there
+    ∙ ap (λ (t : List Entry). with_hold c.args.segment Free t) read.same

@@ -1,0 +1,5 @@
+pub mod Line
+pub mod Lined
+pub mod Printed
+pub mod Reading
+pub mod Status
