@@ -1,6 +1,6 @@
 #!/usr/bin/env python3
 """Posts 100 MB of random bytes with the built program to a news server on the loopback (Debian's inn2, started by
-outside/news_server), and with uuenview, which calls a program of the server's for each article, in the same run and in turn. Prints
+outside/inn), and with uuenview, which calls a program of the server's for each article, in the same run and in turn. Prints
 the rates by the clock, and the processor time of each."""
 
 import os
@@ -18,7 +18,7 @@ TRIES = 3
 LINES = 5859
 SERVER = """
 check=bench/post folder=$1
-. "$2/outside/news_server"
+. "$2/outside/inn"
 start_news_server || exit 1
 echo "$open $server"
 read line

@@ -20,3 +20,5 @@ mod refused;
 mod spellings;
 #[cfg(test)]
 mod sums;
+#[cfg(test)]
+mod texts;

@@ -1,4 +1,4 @@
-pub mod BodyLemmas
+pub mod BodySteps
 pub mod CheckLemmas
 pub mod DecodeSteps
 pub mod EndLaws

@@ -1,12 +1,13 @@
 -- The text that `encode` writes: the yEnc body of a part of a file (yEnc draft 1.3, "Headers and Trailers", "Multi-part
 -- Encoded Binaries" and "Encoding Technique").
-use Rattle.std.specs.Prelude.{ℕ, nat_lt, if◌then◌else◌, List, [], ◌∷◌, ◌++◌, Option, Some, None}
-use Rattle.std.specs.List.{flat_map}
+use Rattle.std.specs.Prelude.{ℕ, nat_lt, if◌then◌else◌, List, Option, Some, None}
 use Rattle.yenc_body.specs.Parts.{body_spec, most_bytes, most_parts, parts_of}
 use Rattle.yenc_body.specs.declared.spec.BodySpec.{BodySpec}
 use Rattle.command_words.specs.CommandLine.{PartAsked}
 use Rattle.run_ends.specs.declared.end.Limit.{Limit}
 use Rattle.run_ends.specs.declared.end.Limit.TheVariants.{File, Part, Segments}
+use Rattle.yenc_text.specs.Text.{IsBodyText, IsDataText}
+use Rattle.usebin_cli.specs.Writing.{Written}
 
 -- ---- what may not be encoded
 
@@ -25,10 +26,10 @@ limit_of part_size part size =
 abbrev pub part_spec : PartAsked → ℕ → BodySpec
 part_spec asked size = body_spec asked.name asked.line size asked.part_size asked.part
 
--- a line with its end, CR LF
-abbrev pub ended : List ℕ → List ℕ
-ended line = line ++ 13 ∷ 10 ∷ []
+-- the text of a body of a part's bytes was written whole, or only in front of a failed write
+abbrev pub WroteBody : (List ℕ → Written → Type 0) → BodySpec → List ℕ → Written → Type 0
+WroteBody how spec content w = (text : List ℕ) × IsBodyText spec content text × how text w
 
--- lines as a text
-abbrev pub text_of : List (List ℕ) → List ℕ
-text_of lines = flat_map ended lines
+-- the same of the text of its data lines alone
+abbrev pub WroteData : (List ℕ → Written → Type 0) → ℕ → List ℕ → Written → Type 0
+WroteData how line_length content w = (text : List ℕ) × IsDataText line_length content text × how text w

@@ -5,7 +5,8 @@ use Rattle.yenc_body.specs.Parts.{part_length, part_place}
 use Rattle.yenc_body.specs.declared.spec.BodySpec.{BodySpec}
 use Rattle.io_traits.specs.declared.blame.Blame.{Blame}
 use Rattle.io_traits.specs.declared.blame.Blame.TheVariants.{Read, Open}
-use Rattle.usebin_cli.specs.Body.{limit_of, part_spec, text_of}
+use Rattle.usebin_cli.specs.Body.{limit_of, part_spec}
+use Rattle.yenc_text.specs.Text.{text_of}
 use Rattle.command_words.specs.CommandLine.{PartAsked}
 use Rattle.input_files.specs.Reading.{Reading, IsFaultless, HasFailed, IsIn, IsPieceAt}
 use Rattle.usebin_cli.specs.Writing.{Written, WroteWhole, WroteFront}

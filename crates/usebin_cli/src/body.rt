@@ -1,30 +1,55 @@
-// The body of a part of a file, and its text.
-ghost use Rattle.std.specs.Prelude.{◌≡◌, length, IfOk};
-ghost use Rattle.yenc_body.specs.Canonical.{IsCanonicalBody, IsPart};
-ghost use Rattle.usebin_cli.specs.Body.{text_of as text_of_lines};
+// The text of the body of a part, written a piece at a time.
+ghost use Rattle.std.specs.Prelude.{◌≡◌, ◌≤◌, MatchResult};
+ghost use Rattle.usebin_cli.specs.Body.{WroteBody, WroteData};
+ghost use Rattle.usebin_cli.specs.Writing.{written, WroteFront, WroteWhole};
+ghost use Rattle.yenc_text.specs.Text.{closing as text_behind, opening as text_before};
 
-use lists::{Bytes, Lines, Memory};
-use std::alloc::Global;
-use yenc_body::{BodySpec, write_body};
+use crate::writing::write_all;
+use io_traits::{Failed, Sink};
+use yenc_body::BodySpec;
+use yenc_text::{PIECE, fill_piece};
 
-/// The lines of the body of a part's bytes.
-pub(crate) fn body_of(alloc: Global, spec: &BodySpec, content: &[u8]) -> Result<Lines, Memory>
-    requires { IsPart spec.now (length content.now) }
-    ensures { IfOk result (IsCanonicalBody spec.now content.now) }
+/// Writes the text of the body of a part's bytes, for which what stands before its data lines and behind them is made
+/// already: it takes no memory.
+pub(crate) fn write_body<O: Sink>(
+    spec: &BodySpec,
+    content: &[u8],
+    opening: &[u8],
+    closing: &[u8],
+    out: &mut O,
+) -> Result<(), Failed>
+    requires least { 64 ≤ spec.now.line }
+    requires most { spec.now.line ≤ 997 }
+    requires opening { opening.now ≡ text_before spec.now content.now }
+    requires closing { closing.now ≡ text_behind spec.now content.now }
+    ensures { let w = written O.Sink out.old out.new in
+        MatchResult result (λ _. WroteBody WroteWhole spec.now content.now w) (λ _. WroteBody WroteFront spec.now content.now w) }
 {
-    let mut lines = Lines::new(alloc);
-    write_body(spec, content, &mut lines)?;
-    Ok(lines)
+    match write_all(out, opening) {
+        Ok(()) => match write_data(content, spec.line, out) {
+            Ok(()) => write_all(out, closing),
+            Err(Failed) => Err(Failed),
+        },
+        Err(Failed) => Err(Failed),
+    }
 }
 
-/// The text of lines, each ended by CR LF.
-pub(crate) fn text_of(alloc: Global, lines: &Lines) -> Result<Bytes, Memory>
-    ensures { IfOk result (λ text. text ≡ text_of_lines lines.now) }
+// Writes the text of the data lines of a part's bytes.
+fn write_data<O: Sink>(content: &[u8], line: u16, out: &mut O) -> Result<(), Failed>
+    requires least { 64 ≤ line }
+    requires most { line ≤ 997 }
+    ensures { let w = written O.Sink out.old out.new in
+        MatchResult result (λ _. WroteData WroteWhole line content.now w) (λ _. WroteData WroteFront line content.now w) }
 {
-    let mut text = Bytes::new(alloc);
-    for i in 0..lines.len() {
-        text.extend(lines.line(i))?;
-        text.extend(b"\r\n")?;
+    let mut piece = [0; PIECE];
+    let mut at = 0;
+    while at < content.len() {
+        let left = content.split_at(at).1;
+        let (used, len) = fill_piece(left, line, &mut piece);
+        match write_all(out, &piece[..len]) {
+            Ok(()) => at += used,
+            Err(Failed) => return Err(Failed),
+        }
     }
-    Ok(text)
+    Ok(())
 }

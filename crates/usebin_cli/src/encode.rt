@@ -9,8 +9,7 @@ ghost use Rattle.usebin_cli.specs.Run.{HasEnded};
 ghost use Rattle.usebin_cli.specs.Steps.{ReadsPart};
 ghost use Rattle.usebin_cli.specs.Writing.{written};
 
-use crate::body::{body_of, text_of};
-use crate::writing::write_all;
+use crate::body::write_body;
 use command_words::EncodeWords;
 use input_files::{ReadError, read_part};
 use io_traits::{Failed, Input, Sink};
@@ -19,6 +18,7 @@ use lists::Bytes;
 use run_ends::{End, Limit};
 use std::alloc::Global;
 use yenc_body::{BodySpec, parts_of};
+use yenc_text::{closing_of, opening_of};
 
 // A part of a file that was read: which one, and its bytes.
 #[derive(Drop)]
@@ -27,7 +27,7 @@ struct AskedPart {
     content: Bytes,
 }
 
-/// Writes the body of the asked part of a file.
+/// Writes the body of the asked part of a file, as a text that is made in pieces: all memory is taken before the first write.
 pub(crate) fn encode<I: Input, O: Sink>(
     alloc: Global,
     asked: EncodeWords<'_>,
@@ -42,13 +42,20 @@ pub(crate) fn encode<I: Input, O: Sink>(
         Ok(part) => part,
         Err(end) => return end,
     };
-    let Ok(lines) = body_of(alloc, &part.spec, part.content.as_slice()) else {
+    let content = part.content.as_slice();
+    let Ok(opening) = opening_of(alloc, &part.spec, content) else {
         return End::NoMemory;
     };
-    let Ok(text) = text_of(alloc, &lines) else {
+    let Ok(closing) = closing_of(alloc, &part.spec, content) else {
         return End::NoMemory;
     };
-    match write_all(out, text.as_slice()) {
+    match write_body(
+        &part.spec,
+        content,
+        opening.as_slice(),
+        closing.as_slice(),
+        out,
+    ) {
         Ok(()) => End::Done,
         Err(Failed) => End::OutputFault,
     }

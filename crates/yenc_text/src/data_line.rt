@@ -1,0 +1,85 @@
+// One data line of a part's bytes.
+ghost use Rattle.std.specs.Prelude.{◌≡◌, ◌≤◌, ◌<◌, ◌+◌, ◌==◌, ◌||◌, ◌++◌, length, take, drop, slice_index};
+ghost use Rattle.landing_kernel.specs.Raising.{Raises};
+ghost use Rattle.yenc_bytes.specs.WriterLines.{writer_spelling, is_empty, IsWriterLine};
+
+use landing_kernel::raise;
+use yenc_bytes::{Spelling, spell};
+
+/// The longest line: the greatest line length, and one more where its last column has an escape. Behind it is room for a block of
+/// the kernel.
+pub(crate) const LONGEST: usize = 1030;
+
+/// Writes the next line to the front of a buffer, and answers how many bytes it has and its length.
+pub(crate) fn fill_line(rest: &[u8], line: u16, buffer: &mut [u8; LONGEST]) -> (usize, usize)
+    requires least { 64 ≤ line }
+    requires most { line ≤ 997 }
+    requires some { 1 ≤ length rest.now }
+    ensures line { let ends = is_empty (drop result.0 rest.now) in
+        IsWriterLine line ends (take result.0 rest.now) (take result.1 buffer.new) }
+    ensures some { 1 ≤ result.0 }
+    ensures inside { result.0 ≤ length rest.now }
+    ensures room { result.1 ≤ 998 }
+{
+    let width = usize::from(line);
+    let mut used = 0;
+    let mut len = 0;
+    while used < rest.len() && len < width {
+        let plain = fill_plain(rest, used, buffer, len, width);
+        used += plain;
+        len += plain;
+        let spelling = spell_at(rest, used, len, width);
+        put(buffer, len, spelling);
+        len += usize::from(spelling.len);
+        used += 1;
+    }
+    (used, len)
+}
+
+// Puts the next bytes of a line that need no escape behind its first characters, and answers how many: not the line's first,
+// nor its last.
+fn fill_plain(
+    rest: &[u8],
+    used: usize,
+    buffer: &mut [u8; LONGEST],
+    len: usize,
+    width: usize,
+) -> usize
+    requires inside { used < length rest.now }
+    requires room { len < width }
+    requires most { width ≤ 997 }
+    ensures inside { used + result < length rest.now }
+    ensures room { len + result < width }
+    ensures first { len ≡ 0 → result ≡ 0 }
+    ensures raised { Raises rest.now buffer.old buffer.new used len result }
+{
+    if len == 0 {
+        return 0;
+    }
+    let most = (width - 1 - len).min(rest.len() - 1 - used);
+    raise(rest, used, most, buffer, len)
+}
+
+// The spelling of a byte that goes behind so many characters of its line.
+fn spell_at(rest: &[u8], used: usize, len: usize, width: usize) -> Spelling
+    requires inside { used < length rest.now }
+    requires room { len < width }
+    ensures text { let force = len == 0 || len + 1 == width || used + 1 == length rest.now in
+        take result.len result.bytes ≡ writer_spelling force (slice_index rest.now used) }
+    ensures some { 1 ≤ result.len }
+    ensures two { result.len ≤ 2 }
+{
+    let force = len == 0 || len + 1 == width || used + 1 == rest.len();
+    spell(rest[used], force)
+}
+
+// Puts a spelling behind the first characters of a buffer.
+fn put(buffer: &mut [u8; LONGEST], len: usize, spelling: Spelling)
+    requires room { len < 997 }
+    requires some { 1 ≤ spelling.len }
+    requires two { spelling.len ≤ 2 }
+    ensures { take (len + spelling.len) buffer.new ≡ take len buffer.old ++ take spelling.len spelling.bytes }
+{
+    buffer[len] = spelling.bytes[0];
+    buffer[len + 1] = spelling.bytes[1];
+}
