@@ -55,7 +55,7 @@ fn are_label_bytes(label: &[u8]) -> bool
 /// The message-id of a part's article, as `TOKEN.PARTofTOTAL@DOMAIN` (RFC 5536, 3.1.3). It takes no memory.
 ///
 /// The token is 1 to 64 letters, digits, `-` and `_`. The domain is 1 to 64 bytes, pieces of letters, digits and `-` with
-/// one dot between two of them. A file has at most 262,144 parts.
+/// one dot between two of them. A file has at most `MOST_SEGMENTS` parts.
 #[tactic(auto, using(crate::proofs::PartIdLaws::part_id_is_message_id))]
 pub fn part_id(token: &[u8], domain: &[u8], part: u32, total: u32) -> MessageId
     requires token { IsToken token.now }

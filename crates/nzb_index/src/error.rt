@@ -37,10 +37,10 @@ pub enum NzbReason {
 /// A limit that is passed.
 #[derive(Clone, Copy, Debug, PartialEq, Eq)]
 pub enum NzbLimit {
-    /// The text has at most 67,108,864 bytes.
+    /// The text has at most `MOST_TEXT_BYTES` bytes.
     TextBytes,
-    /// It lists at most 9,999 files.
+    /// It lists at most `MOST_FILES` files.
     Files,
-    /// They have at most 262,144 segments together.
+    /// They have at most `MOST_SEGMENTS` segments together.
     Segments,
 }

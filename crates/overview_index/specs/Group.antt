@@ -120,8 +120,8 @@ BringsSegment lines line = (a : Counted) × (counted line ≡ Some a) × IsFalse
 abbrev pub BeginsFile : List Over → Over → Type 0
 BeginsFile lines line = (a : Counted) × (counted line ≡ Some a) × IsFalse (list_any (λ other. has_key (key_of other) a) (counted_in lines))
 
--- Behind these lines, this one brings a segment that the index cannot hold: 262,144 segments are there, or, where they are
--- not, 9,999 files are there and it begins another.
+-- Behind these lines, this one brings a segment that the index cannot hold: it has as many as it may, or, where it has
+-- not, it has as many files as it may and this one begins another.
 abbrev pub WouldPass : List Over → Over → GroupError → Type 0
 WouldPass lines line Memory = ⊥
 WouldPass lines line Segments = BringsSegment lines line × (MOST_SEGMENTS ≤ segments_in lines)

@@ -19,9 +19,9 @@ pub enum Added {
 pub enum GroupError {
     /// No memory was left.
     Memory,
-    /// It would bring the 262,145th segment.
+    /// It would bring one segment more than `MOST_SEGMENTS`.
     Segments,
-    /// It would begin the 10,000th file.
+    /// It would begin one file more than `MOST_FILES`.
     Files,
 }
 

@@ -1,65 +1,66 @@
-// What is asserted of the files of an index.
+// What is looked at in the files of an index.
 use nzb_index::{FileEntry, Index};
-use std::process::Abort;
 
-fn file_of<'a, R: Abort>(rt: &R, index: &'a Index, k: usize) -> &'a FileEntry {
-    index.files.as_slice().get(k).expect(rt, "a file")
+/// What a file of an index is to hold, beside the newsgroup `a.b` alone.
+pub(crate) struct FileSaid<'a> {
+    /// Which one it is, counted from 0.
+    pub(crate) place: usize,
+    pub(crate) poster: &'a [u8],
+    pub(crate) date: u64,
+    pub(crate) subject: &'a [u8],
+    /// How many segments it has.
+    pub(crate) count: usize,
+    /// Some of them: which one it is, counted from 0, its number, its length and its message-id.
+    pub(crate) segments: &'a [(usize, u32, u64, &'a [u8])],
 }
 
-/// Asserts that an index has so many files, and nothing is said of the whole.
-pub(crate) fn has_files<R: Abort>(rt: &R, index: Index, count: usize) -> Index {
-    assert_eq!(rt; index.metas.len(), 0);
-    assert_eq!(rt; index.files.len(), count);
-    index
+/// Whether an index has so many files and these among them, and nothing is said of the whole.
+pub(crate) fn has_files(index: &Index, count: usize, wanted: &[FileSaid<'_>]) -> bool {
+    if index.metas.len() != 0 || index.files.len() != count {
+        return false;
+    }
+    for said in wanted {
+        match index.files.as_slice().get(said.place) {
+            Some(file) => {
+                if !is_file(file, said) {
+                    return false;
+                }
+            }
+            None => return false,
+        }
+    }
+    true
 }
 
-/// Asserts that a file has this subject and so many segments.
-pub(crate) fn has_file<R: Abort>(
-    rt: &R,
-    index: Index,
-    k: usize,
-    subject: &[u8],
-    segments: usize,
-) -> Index {
-    let file = file_of(rt, &index, k);
-    assert!(rt; file.subject.as_slice() == subject);
-    assert_eq!(rt; file.segments.len(), segments);
-    index
+fn is_file(file: &FileEntry, said: &FileSaid<'_>) -> bool {
+    file.poster.as_slice() == said.poster
+        && file.date == said.date
+        && file.subject.as_slice() == said.subject
+        && is_of_group(file)
+        && file.segments.len() == said.count
+        && has_segments(file, said.segments)
 }
 
-/// Asserts who posted a file.
-pub(crate) fn has_poster<R: Abort>(rt: &R, index: Index, k: usize, poster: &[u8]) -> Index {
-    assert!(rt; file_of(rt, &index, k).poster.as_slice() == poster);
-    index
+fn is_of_group(file: &FileEntry) -> bool {
+    match file.groups.as_slice().get(0) {
+        Some(group) => file.groups.len() == 1 && group.as_slice() == b"a.b".as_slice(),
+        None => false,
+    }
 }
 
-/// Asserts that a file has this newsgroup and no other.
-pub(crate) fn has_group<R: Abort>(rt: &R, index: Index, k: usize, group: &[u8]) -> Index {
-    let file = file_of(rt, &index, k);
-    assert_eq!(rt; file.groups.len(), 1);
-    let one = file.groups.as_slice().get(0).expect(rt, "a newsgroup");
-    assert!(rt; one.as_slice() == group);
-    index
-}
-
-/// Asserts when a file was posted.
-pub(crate) fn has_date<R: Abort>(rt: &R, index: Index, k: usize, date: u64) -> Index {
-    assert_eq!(rt; file_of(rt, &index, k).date, date);
-    index
-}
-
-/// Asserts the number, the length and the message-id of a file's segment.
-pub(crate) fn has_segment<R: Abort>(
-    rt: &R,
-    index: Index,
-    k: usize,
-    place: usize,
-    wanted: (u32, u64),
-    id: &[u8],
-) -> Index {
-    let file = file_of(rt, &index, k);
-    let segment = file.segments.as_slice().get(place).expect(rt, "a segment");
-    assert_eq!(rt; (segment.number, segment.bytes), wanted);
-    assert!(rt; segment.id.as_slice() == id);
-    index
+fn has_segments(file: &FileEntry, wanted: &[(usize, u32, u64, &[u8])]) -> bool {
+    for (place, number, bytes, id) in wanted {
+        match file.segments.as_slice().get(*place) {
+            Some(segment) => {
+                if segment.number != *number
+                    || segment.bytes != *bytes
+                    || segment.id.as_slice() != *id
+                {
+                    return false;
+                }
+            }
+            None => return false,
+        }
+    }
+    true
 }

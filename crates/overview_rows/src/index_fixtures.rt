@@ -1,4 +1,5 @@
 // Indexings of a newsgroup over links in memory, and what is asserted of them.
+use crate::file_fixtures::{FileSaid, has_files};
 use io_memory::{ScriptLinks, Turn};
 use io_traits::LinkEvent;
 use lists::{Bytes, List, Memory};
@@ -7,30 +8,23 @@ use overview_index::{IndexError, Indexed, run_index};
 use std::alloc::Global;
 use std::process::Abort;
 
-fn bytes_of(alloc: Global, text: &[u8]) -> Result<Bytes, Memory> {
-    let mut bytes = Bytes::new(alloc);
-    bytes.extend(text)?;
-    Ok(bytes)
-}
-
 fn script_of(alloc: Global, quiet: u32, pieces: &[&[u8]]) -> Result<List<Turn>, Memory> {
     let mut script = List::new(alloc);
     for _ in 0..quiet {
         script.push(Turn::Quiet)?;
     }
-    give(alloc, pieces, &mut script)?;
+    for piece in pieces {
+        let mut bytes = Bytes::new(alloc);
+        bytes.extend(piece)?;
+        script.push(Turn::Give(bytes))?;
+    }
     script.push(Turn::End)?;
     Ok(script)
 }
 
-fn give(alloc: Global, pieces: &[&[u8]], script: &mut List<Turn>) -> Result<(), Memory> {
-    for piece in pieces {
-        script.push(Turn::Give(bytes_of(alloc, piece)?))?;
-    }
-    Ok(())
-}
-
-fn scripted(
+/// Links of which the first gives these pieces after so many quiet receives, and then ends. The call of this number fails, if
+/// it isn't 0.
+pub(crate) fn links_of(
     alloc: Global,
     quiet: u32,
     pieces: &[&[u8]],
@@ -43,62 +37,26 @@ fn scripted(
     ScriptLinks::new(alloc, scripts, chosen)
 }
 
-/// Links of which the first gives these pieces after so many quiet receives, and then ends. The call of this number fails, if
-/// it isn't 0.
-pub(crate) fn links_of<R: Abort + AllocGlobal>(
-    rt: &R,
-    quiet: u32,
-    pieces: &[&[u8]],
-    failing: u64,
-) -> ScriptLinks {
-    scripted(rt.alloc(), quiet, pieces, failing).expect(rt, "links")
-}
+/// What an index comes to: how many files it has, how many lines were skipped, and some of the files.
+pub(crate) type Outcome<'a> = Result<(usize, u64, &'a [FileSaid<'a>]), IndexError>;
 
-/// What an index came to: how many files it has, and how many lines were skipped.
-pub(crate) type Outcome = Result<(usize, u64), IndexError>;
+/// The pieces that a link gives before it ends, the numbers that are asked for, what the index comes to, and all bytes that go
+/// out.
+pub(crate) type Session<'a> = (&'a [&'a [u8]], (u64, u64), Outcome<'a>, &'a [u8]);
 
-/// An index, and the links that it was made over.
-#[derive(Drop)]
-pub(crate) struct Run {
-    pub(crate) answered: Result<Indexed, IndexError>,
-    pub(crate) links: ScriptLinks,
-}
-
-/// Indexes the newsgroup `a.b` from a number to another.
-pub(crate) fn index<R: Abort + AllocGlobal>(
-    rt: &R,
-    mut links: ScriptLinks,
-    first: u64,
-    last: u64,
-    patience: u32,
-) -> Run {
-    assert!(rt; 1 <= first && first <= last && last <= 99_999 && patience > 0);
-    let group = GroupName::new(b"a.b").expect(rt, "a name");
-    let answered = run_index(
-        rt.alloc(),
-        &mut links,
-        b"host:119",
-        &group,
-        first,
-        last,
-        patience,
-        None,
-    );
-    Run { answered, links }
-}
-
-// What was answered, but for what the files hold.
-fn told(answered: &Result<Indexed, IndexError>) -> Outcome {
+fn came(answered: &Result<Indexed, IndexError>, wanted: &Outcome<'_>) -> bool {
     match answered {
-        Ok(indexed) => Ok((indexed.index.files.len(), indexed.skipped)),
-        Err(why) => Err(*why),
+        Ok(indexed) => match wanted {
+            Ok((count, skipped, files)) => {
+                indexed.skipped == *skipped && has_files(&indexed.index, *count, files)
+            }
+            Err(_) => false,
+        },
+        Err(why) => match wanted {
+            Ok(_) => false,
+            Err(cause) => *why == *cause,
+        },
     }
-}
-
-/// Asserts what an index came to, and gives it back.
-pub(crate) fn came<R: Abort>(rt: &R, run: Run, wanted: Outcome) -> Run {
-    assert_eq!(rt; told(&run.answered), wanted);
-    run
 }
 
 fn bytes_sent(alloc: Global, links: &ScriptLinks) -> Result<Bytes, Memory> {
@@ -112,35 +70,38 @@ fn bytes_sent(alloc: Global, links: &ScriptLinks) -> Result<Bytes, Memory> {
     Ok(sent)
 }
 
-/// Asserts that these are all bytes that went out.
-pub(crate) fn sent<R: Abort + AllocGlobal>(rt: &R, links: ScriptLinks, wanted: &[u8]) {
-    let bytes = bytes_sent(rt.alloc(), &links).expect(rt, "bytes");
-    assert_eq!(rt; bytes.as_slice(), wanted);
-}
-
-/// Asserts what an index comes to over a link that gives these pieces and then ends, and bears two quiet receives.
+/// Asserts what an index of the newsgroup `a.b` comes to over these links, and which bytes go out. It bears fewer quiet
+/// receives after each other than `patience`.
 pub(crate) fn comes<R: Abort + AllocGlobal>(
     rt: &R,
-    pieces: &[&[u8]],
-    first: u64,
-    last: u64,
-    wanted: Outcome,
-) -> ScriptLinks {
-    let links = links_of(rt, 0, pieces, 0);
-    let run = index(rt, links, first, last, 2);
-    let Run { answered: _, links } = came(rt, run, wanted);
-    links
-}
-
-/// The same, and that these are all bytes that went out.
-pub(crate) fn comes_and_sends<R: Abort + AllocGlobal>(
-    rt: &R,
-    pieces: &[&[u8]],
-    first: u64,
-    last: u64,
-    wanted: Outcome,
+    mut links: ScriptLinks,
+    patience: u32,
+    range: (u64, u64),
+    wanted: &Outcome<'_>,
     bytes: &[u8],
 ) {
-    let links = comes(rt, pieces, first, last, wanted);
-    sent(rt, links, bytes);
+    let (first, last) = range;
+    assert!(rt; 1 <= first && first <= last && last <= 99_999 && patience > 0);
+    let group = GroupName::new(b"a.b").expect(rt, "a name");
+    let answered = run_index(
+        rt.alloc(),
+        &mut links,
+        b"host:119",
+        &group,
+        first,
+        last,
+        patience,
+        None,
+    );
+    assert!(rt; came(&answered, wanted));
+    let sent = bytes_sent(rt.alloc(), &links).expect(rt, "bytes");
+    assert_eq!(rt; sent.as_slice(), bytes);
+}
+
+/// Asserts what comes of sessions over links that don't fail.
+pub(crate) fn come<R: Abort + AllocGlobal>(rt: &R, sessions: &[Session<'_>]) {
+    for (pieces, range, wanted, bytes) in sessions {
+        let links = links_of(rt.alloc(), 0, pieces, 0).expect(rt, "links");
+        comes(rt, links, 2, *range, wanted, bytes);
+    }
 }

@@ -27,6 +27,6 @@ pub struct PlanPart {
 pub enum PlanError {
     /// No memory was left.
     Memory,
-    /// The file would have so many parts, which are more than 262,144.
+    /// The file would have so many parts, which are more than `MOST_SEGMENTS`.
     TooManyParts(u64),
 }

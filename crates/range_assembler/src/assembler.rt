@@ -89,7 +89,8 @@ impl Model for Assembler {
 }
 
 impl Assembler {
-    /// No segment has a range. `parts` has the number of segments of each file: at most 9,999 files, and 262,144 segments in all.
+    /// No segment has a range. `parts` has the number of segments of each file: at most `MOST_FILES` files, and `MOST_SEGMENTS`
+    /// segments in all.
     pub fn new(alloc: Global, parts: &[u32]) -> Result<Self, Memory>
         requires files { length parts.now ≤ MOST_FILES }
         requires segments { sum parts.now ≤ MOST_SEGMENTS }

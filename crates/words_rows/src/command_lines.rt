@@ -3,13 +3,24 @@ use crate::fixtures::words_of;
 use command_words::refused_word;
 use std::process::Abort;
 
-// A name of 255 characters, the longest that a header takes.
-const LONGEST: &str =
-    "aaaaaaaaaaaaaaaaaaaaaaaaaaaaaaaaaaaaaaaaaaaaaaaaaaaaaaaaaaaaaaaaaaaaaaaaaaaaaaaaaaaaaaaaaaaaaaaaaaaaaaaaaaaaaaaaaaaaaaaaaaaaaaaaaaaaaaaaaaaaaaaaaaaaaaaaaaaaaaaaaaaaaaaaaaaaaaaaaaaaaaaaaaaaaaaaaaaaaaaaaaaaaaaaaaaaaaaaaaaaaaaaaaaaaaaaaaaaaaaaaaaaaaaaaaaaaaa";
+// Names with bars between them. The longest that a header takes has 255 characters, and the first that it doesn't has one more.
+const NAMES_TAKEN: &str =
+    "a|a b~|aaaaaaaaaaaaaaaaaaaaaaaaaaaaaaaaaaaaaaaaaaaaaaaaaaaaaaaaaaaaaaaaaaaaaaaaaaaaaaaaaaaaaaaaaaaaaaaaaaaaaaaaaaaaaaaaaaaaaaaaaaaaaaaaaaaaaaaaaaaaaaaaaaaaaaaaaaaaaaaaaaaaaaaaaaaaaaaaaaaaaaaaaaaaaaaaaaaaaaaaaaaaaaaaaaaaaaaaaaaaaaaaaaaaaaaaaaaaaaaaaaaaaaaaaaaaaaa";
 
-// One character more.
-const TOO_LONG: &str =
-    "aaaaaaaaaaaaaaaaaaaaaaaaaaaaaaaaaaaaaaaaaaaaaaaaaaaaaaaaaaaaaaaaaaaaaaaaaaaaaaaaaaaaaaaaaaaaaaaaaaaaaaaaaaaaaaaaaaaaaaaaaaaaaaaaaaaaaaaaaaaaaaaaaaaaaaaaaaaaaaaaaaaaaaaaaaaaaaaaaaaaaaaaaaaaaaaaaaaaaaaaaaaaaaaaaaaaaaaaaaaaaaaaaaaaaaaaaaaaaaaaaaaaaaaaaaaaaaaa";
+const NAMES_REFUSED: &str =
+    "aaaaaaaaaaaaaaaaaaaaaaaaaaaaaaaaaaaaaaaaaaaaaaaaaaaaaaaaaaaaaaaaaaaaaaaaaaaaaaaaaaaaaaaaaaaaaaaaaaaaaaaaaaaaaaaaaaaaaaaaaaaaaaaaaaaaaaaaaaaaaaaaaaaaaaaaaaaaaaaaaaaaaaaaaaaaaaaaaaaaaaaaaaaaaaaaaaaaaaaaaaaaaaaaaaaaaaaaaaaaaaaaaaaaaaaaaaaaaaaaaaaaaaaaaaaaaaaa|| a|a |a\tb|\u{e9}";
+
+// Keys with the values that they take and those that are refused, with bars between them.
+const VALUES: [(&str, &str, &str); 4] = [
+    ("--name", NAMES_TAKEN, NAMES_REFUSED),
+    ("--line", "64|997", "0128|00128|63|998||+64"),
+    ("--part-size", "1|16777216", "0|16777217"),
+    (
+        "--part",
+        "4294967295|10",
+        "0|01|00|4294967296|18446744073709551617",
+    ),
+];
 
 // Asserts which word is the first that is refused, if one is.
 fn refuses<R: Abort + AllocGlobal>(rt: &R, words: &[&str], wanted: Option<u64>) {
@@ -99,37 +110,12 @@ fn judges_the_default_name_where_no_name_is_given(rt: HostRuntime) {
 
 #[test]
 fn takes_values_within_their_limits(rt: HostRuntime) {
-    let rows: [(&str, &str, Option<u64>); 28] = [
-        ("--name", "a", None),
-        ("--name", "a b~", None),
-        ("--name", LONGEST, None),
-        ("--name", TOO_LONG, Some(5)),
-        ("--name", "", Some(5)),
-        ("--name", " a", Some(5)),
-        ("--name", "a ", Some(5)),
-        ("--name", "a\tb", Some(5)),
-        ("--name", "\u{e9}", Some(5)),
-        ("--line", "64", None),
-        ("--line", "997", None),
-        ("--line", "0128", Some(5)),
-        ("--line", "00128", Some(5)),
-        ("--line", "63", Some(5)),
-        ("--line", "998", Some(5)),
-        ("--line", "", Some(5)),
-        ("--line", "+64", Some(5)),
-        ("--part-size", "1", None),
-        ("--part-size", "16777216", None),
-        ("--part-size", "0", Some(5)),
-        ("--part-size", "16777217", Some(5)),
-        ("--part", "4294967295", None),
-        ("--part", "0", Some(5)),
-        ("--part", "10", None),
-        ("--part", "01", Some(5)),
-        ("--part", "00", Some(5)),
-        ("--part", "4294967296", Some(5)),
-        ("--part", "18446744073709551617", Some(5)),
-    ];
-    for (key, value, number) in rows {
-        refuses(&rt, &["encode", "--input", "d", key, value], number);
+    for (key, taken, refused) in VALUES {
+        for value in taken.split('|') {
+            refuses(&rt, &["encode", "--input", "d", key, value], None);
+        }
+        for value in refused.split('|') {
+            refuses(&rt, &["encode", "--input", "d", key, value], Some(5));
+        }
     }
 }

@@ -127,40 +127,35 @@ fn the_later_of_two_numbers_is_refused(rt: HostRuntime) {
     }
 }
 
+// Keys with values, with bars between them, and the first word that is refused. The first number, 5, or the last one, 9, is
+// the ninth word.
+const VALUES: [(&str, &str, Option<u64>); 12] = [
+    ("--server", "127.0.0.1:1190", None),
+    ("--server", "h", Some(3)),
+    ("--group", "a", None),
+    ("--group", "a,b||a b", Some(3)),
+    ("--first", "1|9", None),
+    (
+        "--first",
+        "0|05||+5|10000000000000000|18446744073709551621",
+        Some(3),
+    ),
+    ("--first", "10", Some(9)),
+    ("--last", "5|10000004", None),
+    ("--last", "09", Some(3)),
+    ("--last", "4|10000005", Some(9)),
+    ("--patience", "1|100000", None),
+    ("--patience", "0|100001", Some(3)),
+];
+
 #[test]
 fn takes_values_by_their_rules(rt: HostRuntime) {
-    let rows: [(&str, &str, Option<u64>); 27] = [
-        ("--server", "h", Some(3)),
-        ("--server", "127.0.0.1:1190", None),
-        ("--group", "a", None),
-        ("--group", "a,b", Some(3)),
-        ("--group", "", Some(3)),
-        ("--group", "a b", Some(3)),
-        ("--first", "1", None),
-        ("--first", "9", None),
-        ("--first", "0", Some(3)),
-        ("--first", "05", Some(3)),
-        ("--first", "", Some(3)),
-        ("--first", "+5", Some(3)),
-        ("--first", "10000000000000000", Some(3)),
-        ("--first", "18446744073709551621", Some(3)),
-        // The last number, 9, is the ninth word.
-        ("--first", "10", Some(9)),
-        ("--last", "5", None),
-        ("--last", "09", Some(3)),
-        // The first number, 5, is the ninth word.
-        ("--last", "4", Some(9)),
-        ("--last", "10000004", None),
-        ("--last", "10000005", Some(9)),
-        ("--patience", "1", None),
-        ("--patience", "100000", None),
-        ("--patience", "0", Some(3)),
-        ("--patience", "100001", Some(3)),
-        ("--login", "l", None),
-        ("--login", "", Some(3)),
-        ("--input", "d", Some(2)),
-    ];
-    for (key, value, number) in rows {
-        refuses(&rt, words_with(&rt, &REQUIRED, key, value, ""), number);
+    for (key, values, number) in VALUES {
+        for value in values.split('|') {
+            refuses(&rt, words_with(&rt, &REQUIRED, key, value, ""), number);
+        }
     }
+    refuses(&rt, words_with(&rt, &REQUIRED, "--login", "l", ""), None);
+    refuses(&rt, words_with(&rt, &REQUIRED, "--login", "", ""), Some(3));
+    refuses(&rt, words_with(&rt, &REQUIRED, "--input", "d", ""), Some(2));
 }

@@ -160,82 +160,60 @@ fn a_key_stands_once(rt: HostRuntime) {
     }
 }
 
-// 64 and 65 letters, and texts of 200 and 201.
+// Of values with bars between them the longest has 64 letters, 65, or a text of 200 or 201.
+const NAMES_TAKEN: &str = "a|aaaaaaaaaaaaaaaaaaaaaaaaaaaaaaaaaaaaaaaaaaaaaaaaaaaaaaaaaaaaaaaa";
+
 const LETTERS_64: &str = "aaaaaaaaaaaaaaaaaaaaaaaaaaaaaaaaaaaaaaaaaaaaaaaaaaaaaaaaaaaaaaaa";
 
-const LETTERS_65: &str = "aaaaaaaaaaaaaaaaaaaaaaaaaaaaaaaaaaaaaaaaaaaaaaaaaaaaaaaaaaaaaaaaa";
+const TOKENS_REFUSED: &str =
+    "aaaaaaaaaaaaaaaaaaaaaaaaaaaaaaaaaaaaaaaaaaaaaaaaaaaaaaaaaaaaaaaaa||a.b";
 
-const TEXT_200: &str =
-    "aaaaaaaaaaaaaaaaaaaaaaaaaaaaaaaaaaaaaaaaaaaaaaaaaaaaaaaaaaaaaaaaaaaaaaaaaaaaaaaaaaaaaaaaaaaaaaaaaaaaaaaaaaaaaaaaaaaaaaaaaaaaaaaaaaaaaaaaaaaaaaaaaaaaaaaaaaaaaaaaaaaaaaaaaaaaaaaaaaaaaaaaaaaaaaaaaaaaaaaa";
+const DOMAINS_REFUSED: &str =
+    "aaaaaaaaaaaaaaaaaaaaaaaaaaaaaaaaaaaaaaaaaaaaaaaaaaaaaaaaaaaaaaaaa||a..b|a_b";
 
-const TEXT_201: &str =
-    "aaaaaaaaaaaaaaaaaaaaaaaaaaaaaaaaaaaaaaaaaaaaaaaaaaaaaaaaaaaaaaaaaaaaaaaaaaaaaaaaaaaaaaaaaaaaaaaaaaaaaaaaaaaaaaaaaaaaaaaaaaaaaaaaaaaaaaaaaaaaaaaaaaaaaaaaaaaaaaaaaaaaaaaaaaaaaaaaaaaaaaaaaaaaaaaaaaaaaaaaa";
+const FROM_TAKEN: &str =
+    "a|aaaaaaaaaaaaaaaaaaaaaaaaaaaaaaaaaaaaaaaaaaaaaaaaaaaaaaaaaaaaaaaaaaaaaaaaaaaaaaaaaaaaaaaaaaaaaaaaaaaaaaaaaaaaaaaaaaaaaaaaaaaaaaaaaaaaaaaaaaaaaaaaaaaaaaaaaaaaaaaaaaaaaaaaaaaaaaaaaaaaaaaaaaaaaaaaaaaaaaaa";
 
-const VALUES: [(&str, &str, bool); 52] = [
-    ("--input", "d", true),
-    ("--input", "", false),
-    ("--input", "d/", false),
-    ("--server", "127.0.0.1:1190", true),
-    ("--server", "h", false),
-    ("--server", "h:0", false),
-    ("--server", "h:0119", false),
-    ("--server", "h:65536", false),
-    ("--server", "h:119*4", false),
-    ("--from", "a", true),
-    ("--from", "", false),
-    ("--from", " a", false),
-    ("--from", "a ", false),
-    ("--from", "a\u{e9}", false),
-    ("--from", TEXT_200, true),
-    ("--from", TEXT_201, false),
-    ("--group", "a,b,c,d,e,f,g,h,i,j", true),
-    ("--group", "a,b,c,d,e,f,g,h,i,j,k", false),
-    ("--group", "", false),
-    ("--group", "a,", false),
-    ("--group", "a, b", false),
-    ("--token", LETTERS_64, true),
-    ("--token", LETTERS_65, false),
-    ("--token", "", false),
-    ("--token", "a.b", false),
-    ("--domain", "a", true),
-    ("--domain", LETTERS_64, true),
-    ("--domain", LETTERS_65, false),
-    ("--domain", "", false),
-    ("--domain", "a..b", false),
-    ("--domain", "a_b", false),
-    ("--name", "a b", true),
-    ("--name", "", false),
-    ("--comment", "", true),
-    ("--comment", "a b", true),
-    ("--comment", " ", false),
-    ("--comment", TEXT_200, true),
-    ("--comment", TEXT_201, false),
-    ("--line", "64", true),
-    ("--line", "998", false),
-    ("--line", "064", false),
-    ("--part-size", "16777216", true),
-    ("--part-size", "16777217", false),
-    ("--part-size", "0", false),
-    ("--patience", "1", true),
-    ("--patience", "100000", true),
-    ("--patience", "100001", false),
-    ("--patience", "0", false),
-    ("--patience", "01", false),
-    ("--login", "l", true),
-    ("--login", "", false),
-    ("--part", "1", false),
+const FROM_REFUSED: &str =
+    "| a|a |a\u{e9}|aaaaaaaaaaaaaaaaaaaaaaaaaaaaaaaaaaaaaaaaaaaaaaaaaaaaaaaaaaaaaaaaaaaaaaaaaaaaaaaaaaaaaaaaaaaaaaaaaaaaaaaaaaaaaaaaaaaaaaaaaaaaaaaaaaaaaaaaaaaaaaaaaaaaaaaaaaaaaaaaaaaaaaaaaaaaaaaaaaaaaaaaaaaaaaaaaaaaaaaaa";
+
+const COMMENTS_TAKEN: &str =
+    "|a b|aaaaaaaaaaaaaaaaaaaaaaaaaaaaaaaaaaaaaaaaaaaaaaaaaaaaaaaaaaaaaaaaaaaaaaaaaaaaaaaaaaaaaaaaaaaaaaaaaaaaaaaaaaaaaaaaaaaaaaaaaaaaaaaaaaaaaaaaaaaaaaaaaaaaaaaaaaaaaaaaaaaaaaaaaaaaaaaaaaaaaaaaaaaaaaaaaaaaaaaa";
+
+const COMMENTS_REFUSED: &str =
+    " |aaaaaaaaaaaaaaaaaaaaaaaaaaaaaaaaaaaaaaaaaaaaaaaaaaaaaaaaaaaaaaaaaaaaaaaaaaaaaaaaaaaaaaaaaaaaaaaaaaaaaaaaaaaaaaaaaaaaaaaaaaaaaaaaaaaaaaaaaaaaaaaaaaaaaaaaaaaaaaaaaaaaaaaaaaaaaaaaaaaaaaaaaaaaaaaaaaaaaaaaa";
+
+// Each key with the values that it takes and those that are refused, with bars between them: a row proves dear, a value not.
+const VALUES: [(&str, &str, &str); 12] = [
+    ("--input", "d", "|d/"),
+    ("--server", "127.0.0.1:1190", "h|h:0|h:0119|h:65536|h:119*4"),
+    ("--from", FROM_TAKEN, FROM_REFUSED),
+    (
+        "--group",
+        "a,b,c,d,e,f,g,h,i,j",
+        "a,b,c,d,e,f,g,h,i,j,k||a,|a, b",
+    ),
+    ("--token", LETTERS_64, TOKENS_REFUSED),
+    ("--domain", NAMES_TAKEN, DOMAINS_REFUSED),
+    ("--name", "a b", ""),
+    ("--comment", COMMENTS_TAKEN, COMMENTS_REFUSED),
+    ("--line", "64", "998|064"),
+    ("--part-size", "16777216", "16777217|0"),
+    ("--patience", "1|100000", "100001|0|01"),
+    ("--login", "l", ""),
 ];
 
 #[test]
 fn takes_values_by_their_rules(rt: HostRuntime) {
-    for (key, value, is_taken) in VALUES {
-        let wanted = match (is_taken, key) {
-            (true, _) => None,
-            (false, "--part") => Some(2),
-            (false, _) => Some(3),
-        };
-        refuses(&rt, words_with(&rt, &REQUIRED, key, value, ""), wanted);
+    for (key, taken, refused) in VALUES {
+        for value in taken.split('|') {
+            refuses(&rt, words_with(&rt, &REQUIRED, key, value, ""), None);
+        }
+        for value in refused.split('|') {
+            refuses(&rt, words_with(&rt, &REQUIRED, key, value, ""), Some(3));
+        }
     }
+    refuses(&rt, words_with(&rt, &REQUIRED, "--part", "1", ""), Some(2));
 }
 
 #[test]

@@ -7,9 +7,9 @@ use crate::spelling::{Spelling, spell};
 use landing_kernel::raise;
 use lists::{Lines, Memory};
 
-// The longest line: the greatest line length, and one more where its last column has an escape. Behind it is room for a block of
-// the kernel.
-const LONGEST: usize = 1030;
+/// How many bytes the buffer of a line has: the greatest line length, one more where its last column has an escape, and behind
+/// it room for a block of the kernel.
+pub const LONGEST_LINE: usize = 1030;
 
 /// Appends the data lines of a part's bytes, of a line length from 64 to 997 (yEnc draft 1.3, "Encoding Technique").
 /// A part without bytes has none. Where memory runs out, the lines are as they were.
@@ -36,7 +36,7 @@ fn append_lines(bytes: &[u8], line: u16, out: &mut Lines) -> Result<(), Memory>
     ensures ok { OnOk result (AppendsData line bytes.now out.old out.new) }
     ensures err { OnErr result ((lines : List (List ℕ)) × (out.new ≡ out.old ++ lines)) }
 {
-    let mut buffer = [0; LONGEST];
+    let mut buffer = [0; LONGEST_LINE];
     let mut rest = bytes;
     while !rest.is_empty() {
         let (used, len) = fill_line(rest, line, &mut buffer);
@@ -46,8 +46,9 @@ fn append_lines(bytes: &[u8], line: u16, out: &mut Lines) -> Result<(), Memory>
     Ok(())
 }
 
-// Writes the next line to the front of a buffer, and answers how many bytes it has and its length.
-fn fill_line(rest: &[u8], line: u16, buffer: &mut [u8; LONGEST]) -> (usize, usize)
+/// Writes the next data line of a part's bytes to the front of a buffer, of a line length from 64 to 997 (yEnc draft 1.3,
+/// "Encoding Technique"). Answers how many of the bytes it has, and how long it is. There is a byte at least.
+pub fn fill_line(rest: &[u8], line: u16, buffer: &mut [u8; LONGEST_LINE]) -> (usize, usize)
     requires least { 64 ≤ line }
     requires most { line ≤ 997 }
     requires some { 1 ≤ length rest.now }
@@ -77,7 +78,7 @@ fn fill_line(rest: &[u8], line: u16, buffer: &mut [u8; LONGEST]) -> (usize, usiz
 fn fill_plain(
     rest: &[u8],
     used: usize,
-    buffer: &mut [u8; LONGEST],
+    buffer: &mut [u8; LONGEST_LINE],
     len: usize,
     width: usize,
 ) -> usize
@@ -110,7 +111,7 @@ fn spell_at(rest: &[u8], used: usize, len: usize, width: usize) -> Spelling
 }
 
 // Puts a spelling behind the first characters of a buffer.
-fn put(buffer: &mut [u8; LONGEST], len: usize, spelling: Spelling)
+fn put(buffer: &mut [u8; LONGEST_LINE], len: usize, spelling: Spelling)
     requires room { len < 997 }
     requires some { 1 ≤ spelling.len }
     requires two { spelling.len ≤ 2 }

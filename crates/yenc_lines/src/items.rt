@@ -3,6 +3,7 @@ ghost use Rattle.std.specs.Prelude.{◌≡◌, ◌≤◌, false, length, MatchRe
 ghost use Rattle.std.specs.List.{slice_split, list_any};
 ghost use Rattle.yenc_lines.specs.Keywords.{Item, item_of, items_in, is_space, same_key};
 ghost use Rattle.yenc_lines.specs.Gathered.{place, gathered, nothing, taken};
+ghost use Rattle.limits.specs.declared.TheConstants.{MOST_KEYWORD_BYTES};
 
 use crate::item::{first_at, item_of, number_of};
 use crate::{Key, KeyFault};
@@ -57,7 +58,7 @@ pub(crate) fn take(numbers: &mut Numbers, known: &[Key], piece: &[u8]) -> Result
 // The numbers of all items of a text, whose keys have numbers.
 pub(crate) fn read_numbers(known: &[Key], text: &[u8]) -> Result<Numbers, KeyFault>
     requires keys { list_any (same_key Key.Name) known.now ≡ false }
-    requires room { length text.now ≤ 1024 }
+    requires room { length text.now ≤ MOST_KEYWORD_BYTES }
     ensures { result ≡ gathered nothing (items_in known.now (slice_split is_space text.now)) }
 {
     let mut numbers = [None; 9];

@@ -2,13 +2,15 @@
 ghost use Rattle.std.specs.Prelude.{◌≡◌, ◌≤◌, ◌+◌, ◌++◌, length, take, codes, decimal};
 ghost use Rattle.crc_field.specs.Hex.{hex_digits};
 ghost use Rattle.yenc_lines.specs.KeywordText.{item};
+ghost use Rattle.limits.specs.declared.TheConstants.{MOST_KEYWORD_BYTES};
 
 use crc_field::write_hex;
+use limits::MOST_KEYWORD_BYTES;
 use numbers::{put, write_dec};
 
 // Puts an item whose value has this text.
-fn put_item(out: &mut [u8; 1024], at: usize, key: &[u8], value: &[u8]) -> usize
-    requires { at + length key.now + length value.now + 2 ≤ 1024 }
+fn put_item(out: &mut [u8; MOST_KEYWORD_BYTES], at: usize, key: &[u8], value: &[u8]) -> usize
+    requires { at + length key.now + length value.now + 2 ≤ MOST_KEYWORD_BYTES }
     ensures text { take result out.new ≡ take at out.old ++ (codes " " ++ key.now ++ codes "=" ++ value.now) }
     ensures end { result ≡ at + length key.now + length value.now + 2 }
 {
@@ -19,8 +21,13 @@ fn put_item(out: &mut [u8; 1024], at: usize, key: &[u8], value: &[u8]) -> usize
 }
 
 // Puts an item whose value is a decimal number.
-pub(crate) fn put_decimal(out: &mut [u8; 1024], at: usize, key: &[u8], value: u64) -> usize
-    requires { at + length key.now + 22 ≤ 1024 }
+pub(crate) fn put_decimal(
+    out: &mut [u8; MOST_KEYWORD_BYTES],
+    at: usize,
+    key: &[u8],
+    value: u64,
+) -> usize
+    requires { at + length key.now + 22 ≤ MOST_KEYWORD_BYTES }
     ensures text { take result out.new ≡ take at out.old ++ item key.now decimal (Some value) }
     ensures end { result ≤ at + length key.now + 22 }
 {
@@ -30,8 +37,13 @@ pub(crate) fn put_decimal(out: &mut [u8; 1024], at: usize, key: &[u8], value: u6
 }
 
 // Puts an item whose value is a decimal number, where it is there.
-pub(crate) fn put_number(out: &mut [u8; 1024], at: usize, key: &[u8], value: Option<u32>) -> usize
-    requires { at + length key.now + 22 ≤ 1024 }
+pub(crate) fn put_number(
+    out: &mut [u8; MOST_KEYWORD_BYTES],
+    at: usize,
+    key: &[u8],
+    value: Option<u32>,
+) -> usize
+    requires { at + length key.now + 22 ≤ MOST_KEYWORD_BYTES }
     ensures text { take result out.new ≡ take at out.old ++ item key.now decimal value }
     ensures end { result ≤ at + length key.now + 22 }
 {
@@ -42,8 +54,13 @@ pub(crate) fn put_number(out: &mut [u8; 1024], at: usize, key: &[u8], value: Opt
 }
 
 // Puts an item whose value is a CRC, where it is there.
-pub(crate) fn put_crc(out: &mut [u8; 1024], at: usize, key: &[u8], value: Option<u32>) -> usize
-    requires { at + length key.now + 10 ≤ 1024 }
+pub(crate) fn put_crc(
+    out: &mut [u8; MOST_KEYWORD_BYTES],
+    at: usize,
+    key: &[u8],
+    value: Option<u32>,
+) -> usize
+    requires { at + length key.now + 10 ≤ MOST_KEYWORD_BYTES }
     ensures text { take result out.new ≡ take at out.old ++ item key.now (hex_digits 8) value }
     ensures end { result ≤ at + length key.now + 10 }
 {

@@ -4,6 +4,7 @@ ghost use Rattle.std.specs.List.{list_any};
 ghost use Rattle.yenc_lines.specs.declared.key.Key.{Key};
 ghost use Rattle.yenc_lines.specs.Keywords.{Kind, key_fault_of, items_of, number_in, same_key, begin_of, part_of, end_of};
 ghost use Rattle.yenc_lines.specs.Gathered.{begin_with, given, missing_in};
+ghost use Rattle.limits.specs.declared.TheConstants.{MOST_KEYWORD_BYTES};
 
 use crate::header::read_header;
 use crate::items::{Numbers, place, read_numbers};
@@ -25,7 +26,7 @@ fn missing(numbers: &Numbers, required: &[Key]) -> Option<KeyFault>
 // The numbers of a line of a kind: one that begins with this word, and knows and must have these keys.
 fn read_kind(word: &[u8], known: &[Key], required: &[Key], line: &[u8]) -> Result<Numbers, KeyFault>
     requires keys { list_any (same_key Key.Name) known.now ≡ false }
-    requires room { length line.now ≤ 1024 }
+    requires room { length line.now ≤ MOST_KEYWORD_BYTES }
     ensures fault { let kind : Kind = record { word = word.now; known = known.now; required = required.now } in MatchResult result (λ _. key_fault_of kind line.now ≡ None) (λ fault. key_fault_of kind line.now ≡ Some fault) }
     ensures numbers { let kind : Kind = record { word = word.now; known = known.now; required = required.now } in IfOk result (λ numbers. (k : Key) → given numbers k ≡ number_in (items_of kind line.now) k) }
 {
@@ -44,7 +45,7 @@ fn read_kind(word: &[u8], known: &[Key], required: &[Key], line: &[u8]) -> Resul
 /// then `name`, which runs to the line's end. What has no `=` or another key is passed over. The fault is that of the
 /// first item that fails, and else the first of `size` and `name` that isn't there.
 pub fn read_begin(line: &[u8]) -> Result<Begin, KeyFault>
-    requires { length line.now ≤ 1024 }
+    requires { length line.now ≤ MOST_KEYWORD_BYTES }
     ensures { result ≡ begin_of line.now }
 {
     if !line.starts_with(b"=ybegin ") {
@@ -84,7 +85,7 @@ fn begin_with(numbers: &Numbers, name: Name) -> Result<Begin, KeyFault>
 /// from 1, and `end`, each up to 2^40, in any order. What has no `=` or another key is passed over. The fault is that of
 /// the first item that fails, and else the first of `begin` and `end` that isn't there.
 pub fn read_part(line: &[u8]) -> Result<PartLine, KeyFault>
-    requires { length line.now ≤ 1024 }
+    requires { length line.now ≤ MOST_KEYWORD_BYTES }
     ensures { result ≡ part_of line.now }
 {
     let keys = [Key::Begin, Key::End];
@@ -100,7 +101,7 @@ pub fn read_part(line: &[u8]) -> Result<PartLine, KeyFault>
 /// of 1 to 8 hexadecimal digits, in any order. What has no `=` or another key is passed over. The fault is that of the
 /// first item that fails, and else that there is no `size`.
 pub fn read_end(line: &[u8]) -> Result<EndLine, KeyFault>
-    requires { length line.now ≤ 1024 }
+    requires { length line.now ≤ MOST_KEYWORD_BYTES }
     ensures { result ≡ end_of line.now }
 {
     let known = [Key::Size, Key::Part, Key::Pcrc32, Key::Crc32];

@@ -4,11 +4,10 @@ ghost use Rattle.limits.specs.declared.TheConstants.{MOST_FILE_BYTES};
 ghost use Rattle.yenc_body.specs.Canonical.{header, part_line, trailer, IsPart};
 ghost use Rattle.yenc_text.specs.Text.{closing, ended, opening};
 
-use crc_field::Crc;
+use limits::MOST_KEYWORD_BYTES;
 use lists::{Bytes, Memory};
 use std::alloc::Global;
-use yenc_body::BodySpec;
-use yenc_lines::{Begin, EndLine, PartLine, write_begin, write_end, write_part};
+use yenc_body::{BodySpec, put_header, put_part_line, put_trailer};
 
 /// The text before the data lines of the body of a part's bytes: the header line, and the part line of one part of several
 /// (yEnc draft 1.3, "Headers and Trailers" and "Multi-part Encoded Binaries").
@@ -35,63 +34,31 @@ pub fn closing_of(alloc: Global, spec: &BodySpec, bytes: &[u8]) -> Result<Bytes,
     Ok(text)
 }
 
-#[tactic(auto, using(crate::proofs::AroundLines::header_is))]
 fn push_header(spec: &BodySpec, text: &mut Bytes) -> Result<(), Memory>
     requires part { 1 ≤ spec.now.part }
     requires size { spec.now.size ≤ MOST_FILE_BYTES }
     ensures { OnOk result (text.new ≡ text.old ++ ended (header spec.now)) }
 {
-    let one = spec.total == 1;
-    let begin = Begin {
-        part: if one { None } else { Some(spec.part) },
-        total: if one { None } else { Some(spec.total) },
-        line: Some(u32::from(spec.line)),
-        size: spec.size,
-        name: spec.name.clone()?,
-    };
-    let mut line = [0; 1024];
-    let len = write_begin(&begin, &mut line);
+    let mut line = [0; MOST_KEYWORD_BYTES];
+    let len = put_header(spec, &mut line)?;
     push_line(&line[..len], text)
 }
 
-#[tactic(auto, using(crate::proofs::AroundLines::part_line_is))]
 fn push_part_line(spec: &BodySpec, bytes: &[u8], text: &mut Bytes) -> Result<(), Memory>
     requires { IsPart spec.now (length bytes.now) }
     ensures { OnOk result (text.new ≡ text.old ++ ended (part_line spec.now bytes.now)) }
 {
-    let part = PartLine {
-        begin: spec.first,
-        end: spec.first + bytes.len() as u64 - 1,
-    };
-    let mut line = [0; 1024];
-    let len = write_part(&part, &mut line);
+    let mut line = [0; MOST_KEYWORD_BYTES];
+    let len = put_part_line(spec, bytes, &mut line);
     push_line(&line[..len], text)
 }
 
-#[tactic(auto, using(crate::proofs::AroundLines::trailer_is))]
 fn push_trailer(spec: &BodySpec, bytes: &[u8], text: &mut Bytes) -> Result<(), Memory>
     requires { IsPart spec.now (length bytes.now) }
     ensures { OnOk result (text.new ≡ text.old ++ ended (trailer spec.now bytes.now)) }
 {
-    let mut crc = Crc::new();
-    crc.update(bytes);
-    let end = if spec.total == 1 {
-        EndLine {
-            size: spec.size,
-            part: None,
-            pcrc32: None,
-            crc32: Some(crc.value()),
-        }
-    } else {
-        EndLine {
-            size: bytes.len() as u64,
-            part: Some(spec.part),
-            pcrc32: Some(crc.value()),
-            crc32: None,
-        }
-    };
-    let mut line = [0; 1024];
-    let len = write_end(&end, &mut line);
+    let mut line = [0; MOST_KEYWORD_BYTES];
+    let len = put_trailer(spec, bytes, &mut line);
     push_line(&line[..len], text)
 }
 

@@ -3,7 +3,6 @@
 #![tactic(auto)]
 
 mod around;
-mod data_line;
 mod laws;
 mod pieces;
 

@@ -2,7 +2,7 @@
 ghost use Rattle.std.specs.Prelude.{◌≡◌, ◌≤◌, ◌+◌, [], ◌∷◌, ◌++◌, length, take};
 ghost use Rattle.yenc_text.specs.Text.{IsPiece};
 
-use crate::data_line::{LONGEST, fill_line};
+use yenc_bytes::{LONGEST_LINE, fill_line};
 
 /// How many bytes a piece has room for.
 pub const PIECE: usize = 65_536;
@@ -18,10 +18,10 @@ pub fn fill_piece(rest: &[u8], line: u16, piece: &mut [u8; PIECE]) -> (usize, us
     ensures some { 1 ≤ length rest.now → 1 ≤ result.0 }
     ensures room { result.1 ≤ 65536 }
 {
-    let mut buffer = [0; LONGEST];
+    let mut buffer = [0; LONGEST_LINE];
     let mut used = 0;
     let mut len = 0;
-    while used < rest.len() && len < PIECE - LONGEST {
+    while used < rest.len() && len < PIECE - LONGEST_LINE {
         let left = rest.split_at(used).1;
         let (count, width) = fill_line(left, line, &mut buffer);
         put_line(piece, len, &buffer[..width]);
