@@ -1,5 +1,5 @@
 -- The definitions of heads, subjects and message-ids, computed on cases that were written out by hand.
-use Rattle.std.proofs.Common.{◌≡◌, [], ◌∷◌, refl, lit≤, arith}
+use Rattle.std.proofs.Common.{◌≡◌, [], ◌∷◌, ◌++◌, None, Some, refl, lit≤, arith}
 use Rattle.std.specs.Prelude.{codes, replicate}
 use Rattle.std.specs.Fmt.{digits}
 use Rattle.std.proofs.lemmas.List.Elements.{All-cons, All-nil}
@@ -7,7 +7,9 @@ use Rattle.nntp_lines.specs.GroupName.{IsGroupName}
 use Rattle.nntp_lines.specs.Word.{IsWord}
 use Rattle.article_head.specs.Field.{IsComment, IsFileName, IsFrom, IsNewsgroups}
 use Rattle.article_head.specs.Head.{head_lines}
+use Rattle.article_head.specs.OutName.{out_name}
 use Rattle.article_head.specs.PartId.{IsDomain, IsToken, is_label_byte, part_id_text}
+use Rattle.article_head.specs.QuotedName.{quoted_name}
 use Rattle.article_head.specs.Subject.{subject_text}
 
 -- ---- fields
@@ -111,3 +113,35 @@ pub head : head_lines (codes "me@example.org") (codes "alt.binaries.test") [] (c
     ≡ codes "From: me@example.org" ∷ codes "Newsgroups: alt.binaries.test" ∷ codes "Subject: \"d\" yEnc (1/1)" ∷ codes "Message-ID: <tok.1of1@example.org>" ∷ [] ∷ []
 unfolding subject_text digits
 head = refl
+
+-- ---- names of files
+
+pub name_in_a_subject : quoted_name (codes "[1/2] \"big.bin\" yEnc (1/20)") ≡ Some (codes "big.bin")
+name_in_a_subject = refl
+
+pub quotes_inside : quoted_name (codes "\"a\" and \"b\"") ≡ Some (codes "a\" and \"b")
+quotes_inside = refl
+
+pub nothing_quoted : quoted_name (codes "\"\"") ≡ Some []
+nothing_quoted = refl
+
+pub one_quote : quoted_name (codes "a \" b") ≡ None
+one_quote = refl
+
+pub first_file : out_name 0 (codes "\"t\" yEnc (1/3)") ≡ codes "0001-t"
+first_file = refl
+
+pub last_file : out_name 9998 (codes "\"my file.txt\" yEnc (1/1)") ≡ codes "9999-my_file.txt"
+last_file = refl
+
+pub file_without_a_name : out_name 41 (codes "yEnc (1/1)") ≡ codes "0042-file"
+file_without_a_name = refl
+
+pub file_with_an_empty_name : out_name 41 (codes "\"\" yEnc (1/1)") ≡ codes "0042-file"
+file_with_an_empty_name = refl
+
+pub path_for_a_name : out_name 0 (codes "\"../a\" yEnc (1/1)") ≡ codes "0001-.._a"
+path_for_a_name = refl
+
+pub longest_name : out_name 0 (34 ∷ replicate 201 110 ++ codes "\"") ≡ codes "0001-" ++ replicate 200 110
+longest_name = refl

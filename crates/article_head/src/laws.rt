@@ -1,6 +1,7 @@
-// The laws of heads and message-ids.
+// The laws of heads, message-ids and names of files.
 ghost use Rattle.article_head.specs.Field.{NewsgroupsAreOne};
 ghost use Rattle.article_head.specs.Head.{HeadIsFields};
+ghost use Rattle.article_head.specs.OutName.{OutNamesDiffer};
 ghost use Rattle.article_head.specs.PartId.{PartIdsAreValid, PartIdsDiffer};
 
 /// The lines of a head are lines of header fields, and one empty line behind them.
@@ -21,4 +22,9 @@ pub fn newsgroups_are_one()
 /// The message-id of a part's article keeps to the syntax of RFC 5536, 3.1.3.
 pub fn part_ids_are_valid()
     ensures { PartIdsAreValid }
+{}
+
+/// Two files of an index have two names to be written under, whatever their subjects.
+pub fn out_names_differ()
+    ensures { OutNamesDiffer }
 {}

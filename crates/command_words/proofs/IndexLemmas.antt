@@ -8,7 +8,7 @@ use Rattle.std.proofs.lemmas.Bool.{and_parts, cases_Bool, cond-false, cond-true,
 use Rattle.nntp_lines.specs.GroupName.{is_group_byte}
 use Rattle.server_logins.proofs.ServerLaws.{server_from_test}
 use Rattle.server_logins.proofs.WordTests.{word_from_test}
-use Rattle.command_words.specs.Asked.{paired, takes_by}
+use Rattle.command_words.specs.Asked.{key_by, paired}
 use Rattle.command_words.specs.Index.{IndexAsked, IsIndexAllowed, article_of, index_asked, index_keys, index_of, index_of_pairs, index_required, is_group, is_range, may_be_range, number_before}
 use Rattle.command_words.specs.Keys.{Key, has_all, pairs_of, patience_of, text_of, value_of}
 use Rattle.command_words.specs.declared.keys.Rule.TheVariants.{First, Group, Last, Number, Path, Server}
@@ -39,12 +39,12 @@ no_number key other (word ∷ words) (suc at) le = no_number key other words at 
 
 abbrev table : Option ℕ → Option ℕ → List Key
 table last first =
-    record { word = codes "--server"; takes = takes_by Server }
-    ∷ record { word = codes "--group"; takes = takes_by Group }
-    ∷ record { word = codes "--first"; takes = takes_by (First last) }
-    ∷ record { word = codes "--last"; takes = takes_by (Last first) }
-    ∷ record { word = codes "--patience"; takes = takes_by (Number 1 100000) }
-    ∷ record { word = codes "--login"; takes = takes_by Path } ∷ []
+    key_by (codes "--server") Server
+    ∷ key_by (codes "--group") Group
+    ∷ key_by (codes "--first") (First last)
+    ∷ key_by (codes "--last") (Last first)
+    ∷ key_by (codes "--patience") (Number 1 100000)
+    ∷ key_by (codes "--login") Path ∷ []
 
 pub same_keys : (words : List (List ℕ)) (last first : Option ℕ) → last ≡ number_before (codes "--last") (codes "--first") words
     → first ≡ number_before (codes "--first") (codes "--last") words → table last first ≡ index_keys words
@@ -139,9 +139,9 @@ ends_make_range words (Some a) None are a_is b_is some_a some_b = cc
 ends_make_range words (Some a) (Some b) are a_is b_is some_a some_b =
     let keys = index_keys words in
     let first = and_parts (is_some (article_of a)) (may_be_range (article_of a) (number_before (codes "--last") (codes "--first") words))
-    (values_taken keys 2 [] (paired words) words are (codes "--first") a a_is) in
+    (values_taken keys words are (codes "--first") a a_is) in
     let last = and_parts (is_some (article_of b)) (may_be_range (number_before (codes "--first") (codes "--last") words) (article_of b))
-    (values_taken keys 2 [] (paired words) words are (codes "--last") b b_is) in
+    (values_taken keys words are (codes "--last") b b_is) in
     range_of_ends (article_of a) (article_of b) first.0 last.0
     (elim (one_before words (codes "--first") (codes "--last") a b a_is b_is) [
       | inl before ↦ ap (λ (n : Option ℕ). may_be_range n (article_of b)) (sym before) ∙ last.1
@@ -153,7 +153,7 @@ ends_make_range words (Some a) (Some b) are a_is b_is some_a some_b =
 login_of : (words : List (List ℕ)) (value : Option (List ℕ)) → pairs_of (index_keys words) 2 [] words ≡ Ok (paired words) → value_of (codes "--login") (paired words) ≡ value
     → IfSome value (λ path. 1 ≤ length path)
 login_of words None are is = tt
-login_of words (Some path) are is = leb-true 1 (length path) (values_taken (index_keys words) 2 [] (paired words) words are (codes "--login") path is)
+login_of words (Some path) are is = leb-true 1 (length path) (values_taken (index_keys words) words are (codes "--login") path is)
 
 -- the numbers of `index` are within their limits
 pub record AreWithin (asked : IndexAsked) : Type 0 where

@@ -65,9 +65,9 @@ post_is path server from newsgroups token domain name comment line part_size pat
 
 -- the value of a key that is there is one that the key takes
 pub there : (keys : List Key) (words : List (List ℕ)) (key : List ℕ) (value : Option (List ℕ)) → pairs_of keys 2 [] words ≡ Ok (paired words) → value_of key (paired words) ≡ value → is_some value ≡ true
-    → is_taken (key_of keys key) (unwrap_or value []) ≡ true
+    → is_taken (key_of keys key) [] (unwrap_or value []) ≡ true
 there keys words key None are is some = cc
-there keys words key (Some value) are is some = values_taken keys 2 [] (paired words) words are key value is
+there keys words key (Some value) are is some = values_taken keys words are key value is
 
 -- all keys that have to be there are
 pub record AreThere (pairs : List (List ℕ × List ℕ)) : Type 0 where
@@ -92,10 +92,10 @@ are_there pairs all =
 
 name_is_header : (words : List (List ℕ)) (named : Bool) (input name : Option (List ℕ)) → pairs_of (post_keys named) 2 [] words ≡ Ok (paired words) → value_of (codes "--input") (paired words) ≡ input → is_some input ≡ true
     → value_of (codes "--name") (paired words) ≡ name → named ≡ is_some name → is_header_name (unwrap_or name (file_name (unwrap_or input []))) ≡ true
-name_is_header words named input (Some name) are input_is some name_is named_is = values_taken (post_keys named) 2 [] (paired words) words are (codes "--name") name name_is
+name_is_header words named input (Some name) are input_is some name_is named_is = values_taken (post_keys named) words are (codes "--name") name name_is
 name_is_header words true input None are input_is some name_is named_is = cc
 name_is_header words false None None are input_is some name_is named_is = cc
-name_is_header words false (Some path) None are input_is some name_is named_is = values_taken (post_keys false) 2 [] (paired words) words are (codes "--input") path input_is
+name_is_header words false (Some path) None are input_is some name_is named_is = values_taken (post_keys false) words are (codes "--input") path input_is
 
 pub post_name : (words : List (List ℕ)) (keys : List Key) (named : Bool) (path : List ℕ) → keys ≡ post_keys named → named ≡ stands_as_key (codes "--name") words → pairs_of keys 2 [] words ≡ Ok (paired words)
     → has_all post_required (paired words) ≡ true → path ≡ text_of (codes "--input") (paired words) → is_header_name (unwrap_or (value_of (codes "--name") (paired words)) (file_name path)) ≡ true
@@ -116,7 +116,7 @@ file_name_of_header name is =
 
 comment_of : (words : List (List ℕ)) (named : Bool) (value : Option (List ℕ)) → pairs_of (post_keys named) 2 [] words ≡ Ok (paired words) → value_of (codes "--comment") (paired words) ≡ value → IsComment (unwrap_or value [])
 comment_of words named None are is = text_from_test 0 200 [] refl
-comment_of words named (Some value) are is = text_from_test 0 200 value (values_taken (post_keys named) 2 [] (paired words) words are (codes "--comment") value is)
+comment_of words named (Some value) are is = text_from_test 0 200 value (values_taken (post_keys named) words are (codes "--comment") value is)
 
 -- the numbers of `post` are within their limits
 pub record AreWithin (asked : PostAsked) : Type 0 where

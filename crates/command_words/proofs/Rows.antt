@@ -4,10 +4,12 @@ use Rattle.std.specs.Prelude.{codes}
 use Rattle.command_words.specs.CommandLine.{words_of}
 use Rattle.command_words.specs.CommandLine.Command.{Check, Decode, Encode, Index, Post}
 use Rattle.command_words.specs.CommandLine.Words.{Asks, Refused}
+use Rattle.command_words.specs.Fetch.{fetch_of}
 use Rattle.command_words.specs.Index.{index_of, is_group, is_range}
 use Rattle.command_words.specs.Keys.{has_leading_zero}
 use Rattle.command_words.specs.Post.{post_of}
 use Rattle.command_words.specs.PostValues.{is_comment, is_domain, is_from, is_newsgroups}
+use Rattle.command_words.specs.Servers.{server_of}
 use Rattle.command_words.specs.declared.keys.Form.TheVariants as form
 use Rattle.limits.specs.declared.TheConstants.{MOST_PART_BYTES}
 
@@ -163,3 +165,52 @@ no_last = refl
 
 pub two_groups : is_group (codes "a,b") ≡ false
 two_groups = refl
+
+-- ---- fetch
+
+pub fetch_without_a_server : fetch_of (codes "--nzb" ∷ codes "a.nzb" ∷ []) ≡ Err 4
+fetch_without_a_server = refl
+
+pub level_that_is_no_digit : fetch_of (codes "--nzb" ∷ codes "a.nzb" ∷ codes "--server" ∷ codes "one:119@x" ∷ []) ≡ Err 5
+level_that_is_no_digit = refl
+
+pub two_servers : fetch_of (codes "--server" ∷ codes "one:119*4" ∷ codes "--nzb" ∷ codes "a.nzb" ∷ codes "--server" ∷ codes "two:119@1" ∷ [])
+    ≡ Ok (record {
+      path = codes "a.nzb";
+      servers = record { address = codes "one:119"; links = 4; level = 0 } ∷ record { address = codes "two:119"; links = 1; level = 1 } ∷ [];
+      depth = 8;
+      patience = 1500;
+      login = None;
+    })
+two_servers = refl
+
+-- the value that passes the sum of links is refused
+pub links_above_64 : fetch_of (codes "--server" ∷ codes "h:1*64" ∷ codes "--nzb" ∷ codes "a" ∷ codes "--server" ∷ codes "h:2" ∷ []) ≡ Err 7
+links_above_64 = refl
+
+abbrev four : List (List ℕ)
+four = codes "--server" ∷ codes "h:1" ∷ codes "--server" ∷ codes "h:1" ∷ codes "--server" ∷ codes "h:1" ∷ codes "--server" ∷ codes "h:1" ∷ []
+
+abbrev sixteen : List (List ℕ)
+sixteen = four ++ four ++ four ++ four
+
+pub sixteen_servers : fetch_of (sixteen ++ codes "--nzb" ∷ []) ≡ Err 35
+sixteen_servers = refl
+
+pub seventeenth_server : fetch_of (sixteen ++ codes "--server" ∷ []) ≡ Err 34
+seventeenth_server = refl
+
+pub no_command_yet : words_of (codes "fetch" ∷ codes "--nzb" ∷ codes "a.nzb" ∷ codes "--server" ∷ codes "h:1" ∷ []) ≡ Refused 1
+no_command_yet = refl
+
+pub links_and_level : server_of (codes "h:1*64@9") ≡ Some (record { address = codes "h:1"; links = 64; level = 9 })
+links_and_level = refl
+
+pub level_before_links : server_of (codes "h:1@9*64") ≡ None
+level_before_links = refl
+
+pub links_with_a_zero_in_front : server_of (codes "h:1*01") ≡ None
+links_with_a_zero_in_front = refl
+
+pub level_of_two_digits : server_of (codes "h:1@00") ≡ None
+level_of_two_digits = refl

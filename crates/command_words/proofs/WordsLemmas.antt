@@ -6,11 +6,11 @@ use Rattle.std.specs.Option.{option_and_then, option_map, unwrap_or}
 use Rattle.std.proofs.lemmas.List.{take_all}
 use Rattle.std.proofs.lemmas.Bool.{and_from, and_parts}
 use Rattle.std.proofs.lemmas.Bool.Decides.{nat_tests}
-use Rattle.command_words.specs.Asked.{paired, path_rule, takes_by}
+use Rattle.command_words.specs.Asked.{key_by, paired, path_rule}
 use Rattle.command_words.specs.CommandLine.{Command, PartAsked, asks_or_lacks, asks_to_index, asks_to_post, command_of, encode_asked, encode_keys, encode_of, part_asked, part_of, words_of, words_of_pairs}
 use Rattle.command_words.specs.CommandLine.Words.{Asks, Refused}
 use Rattle.command_words.specs.CommandLine.Command.{Encode}
-use Rattle.command_words.specs.Keys.{Key, file_name, is_header_name, is_named_path, is_path, is_printable, line_of, pairs_of, part_size_of, stands_as_key, value_of}
+use Rattle.command_words.specs.Keys.{Key, file_name, is_header_name, is_named_path, is_path, is_printable, line_of, once, pairs_of, part_size_of, stands_as_key, value_of}
 use Rattle.command_words.specs.Index.{index_of}
 use Rattle.command_words.specs.Post.{post_of}
 use Rattle.command_words.specs.declared.keys.Rule.{Rule}
@@ -30,10 +30,9 @@ asking : (keys : List Key) (asked : List (List ℕ × List ℕ) → Option Comma
 asking keys asked words command are is = ap (words_of_pairs asked (length words + 2)) are ∙ ap (asks_or_lacks (length words + 2)) is
 
 -- a table that begins with a path is that of a command that takes one
-pub same_table : (named : Bool) (rule : Rule) (rest : List Key) → rule ≡ path_rule named
-    → record { word = codes "--input"; takes = takes_by rule } ∷ rest ≡ record { word = codes "--input"; takes = if named then is_path else is_named_path } ∷ rest
-same_table true rule rest is = ap (λ (r : Rule). record { word = codes "--input"; takes = takes_by r } ∷ rest) is
-same_table false rule rest is = ap (λ (r : Rule). record { word = codes "--input"; takes = takes_by r } ∷ rest) is
+pub same_table : (named : Bool) (rule : Rule) (rest : List Key) → rule ≡ path_rule named → key_by (codes "--input") rule ∷ rest ≡ once (codes "--input") (if named then is_path else is_named_path) ∷ rest
+same_table true rule rest is = ap (λ (r : Rule). key_by (codes "--input") r ∷ rest) is
+same_table false rule rest is = ap (λ (r : Rule). key_by (codes "--input") r ∷ rest) is
 
 -- ---- encode
 
@@ -68,9 +67,9 @@ asked_is path name line part_size part pairs n l s p = rw (n, l, s, p) refl
 -- the name in the header is one that it can carry: the one that is given, or else that of the file
 name_is_header : (words : List (List ℕ)) (named : Bool) (path : List ℕ) (name : Option (List ℕ)) → pairs_of (encode_keys named) 2 [] words ≡ Ok (paired words) → value_of (codes "--input") (paired words) ≡ Some path
     → value_of (codes "--name") (paired words) ≡ name → named ≡ is_some name → is_header_name (unwrap_or name (file_name path)) ≡ true
-name_is_header words named path (Some name) are there name_is named_is = values_taken (encode_keys named) 2 [] (paired words) words are (codes "--name") name name_is
+name_is_header words named path (Some name) are there name_is named_is = values_taken (encode_keys named) words are (codes "--name") name name_is
 name_is_header words true path None are there name_is named_is = cc
-name_is_header words false path None are there name_is named_is = values_taken (encode_keys false) 2 [] (paired words) words are (codes "--input") path there
+name_is_header words false path None are there name_is named_is = values_taken (encode_keys false) words are (codes "--input") path there
 
 pub header_name_of : (words : List (List ℕ)) (keys : List Key) (named : Bool) (path : List ℕ) → keys ≡ encode_keys named → named ≡ stands_as_key (codes "--name") words → pairs_of keys 2 [] words ≡ Ok (paired words)
     → Some path ≡ value_of (codes "--input") (paired words) → is_header_name (unwrap_or (value_of (codes "--name") (paired words)) (file_name path)) ≡ true

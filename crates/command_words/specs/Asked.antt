@@ -8,9 +8,10 @@ use Rattle.command_words.specs.Index.{IsIndexAllowed, index_found, is_first, is_
 use Rattle.command_words.specs.Keys.{Key, form_of, is_header_name, is_named_path, is_path, number_in, pairs_of}
 use Rattle.command_words.specs.Post.{IsPostAllowed, post_found}
 use Rattle.command_words.specs.PostValues.{is_comment, is_domain, is_from, is_newsgroups, is_token}
+use Rattle.command_words.specs.Servers.{is_next_server}
 use Rattle.command_words.specs.declared.keys.Key.{Key as TableKey}
 use Rattle.command_words.specs.declared.keys.Rule.{Rule}
-use Rattle.command_words.specs.declared.keys.Rule.TheVariants.{Comment, Domain, First, Form, From, Group, HeaderName, Last, NamedPath, Newsgroups, Number, Path, Server, Token}
+use Rattle.command_words.specs.declared.keys.Rule.TheVariants.{Comment, Domain, FetchServer, First, Form, From, Group, HeaderName, Last, NamedPath, Newsgroups, Number, Path, Server, Token}
 use Rattle.command_words.specs.declared.words.Command.{Command}
 use Rattle.command_words.specs.declared.words.Command.TheVariants as given
 use Rattle.command_words.specs.declared.words.CheckWords.{CheckWords}
@@ -20,30 +21,40 @@ use Rattle.limits.specs.declared.TheConstants.{MOST_PART_BYTES}
 
 -- ---- keys in a table
 
--- the values that a rule takes
-abbrev pub takes_by : Rule → List ℕ → Bool
-takes_by Path value = is_path value
-takes_by NamedPath value = is_named_path value
-takes_by HeaderName value = is_header_name value
-takes_by (Number least most) value = is_some (number_in least most value)
-takes_by Form value = is_some (form_of value)
-takes_by Server value = is_server value
-takes_by From value = is_from value
-takes_by Newsgroups value = is_newsgroups value
-takes_by Comment value = is_comment value
-takes_by Token value = is_token value
-takes_by Domain value = is_domain value
-takes_by Group value = is_group value
-takes_by (First last) value = is_first last value
-takes_by (Last first) value = is_last first value
+-- how often a key of a rule may stand
+abbrev pub most_times : Rule → ℕ
+most_times FetchServer = 16
+most_times _ = 1
+
+-- the values that a rule takes, beside those that the key has so far
+abbrev pub takes_by : Rule → List (List ℕ) → List ℕ → Bool
+takes_by Path before value = is_path value
+takes_by NamedPath before value = is_named_path value
+takes_by HeaderName before value = is_header_name value
+takes_by (Number least most) before value = is_some (number_in least most value)
+takes_by Form before value = is_some (form_of value)
+takes_by Server before value = is_server value
+takes_by FetchServer before value = is_next_server before value
+takes_by From before value = is_from value
+takes_by Newsgroups before value = is_newsgroups value
+takes_by Comment before value = is_comment value
+takes_by Token before value = is_token value
+takes_by Domain before value = is_domain value
+takes_by Group before value = is_group value
+takes_by (First last) before value = is_first last value
+takes_by (Last first) before value = is_last first value
 
 -- which paths a command takes, where a name is given or isn't
 abbrev pub path_rule : Bool → Rule
 path_rule is_named = if is_named then Path else NamedPath
 
+-- a word that is a key of a rule
+abbrev pub key_by : List ℕ → Rule → Key
+key_by word rule = record { word = word; most = most_times rule; takes = takes_by rule }
+
 -- a key of a table
 abbrev pub key_model : TableKey → Key
-key_model key = record { word = key.word.now; takes = takes_by key.rule }
+key_model key = key_by key.word.now key.rule
 
 -- ---- pairs
 

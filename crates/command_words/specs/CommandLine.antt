@@ -5,7 +5,7 @@ use Rattle.std.specs.Option.{option_and_then, option_map, unwrap_or}
 use Rattle.command_words.specs.declared.keys.Form.{Form}
 use Rattle.command_words.specs.declared.keys.Form.TheVariants.{File}
 use Rattle.command_words.specs.Index.{IndexAsked, index_of}
-use Rattle.command_words.specs.Keys.{Key, file_name, form_of, is_header_name, is_named_path, is_path, line_of, number_in, pairs_of, part_size_of, stands_as_key, value_of}
+use Rattle.command_words.specs.Keys.{Key, file_name, form_of, is_header_name, is_named_path, is_path, line_of, number_in, once, pairs_of, part_size_of, stands_as_key, value_of}
 use Rattle.command_words.specs.Post.{PostAsked, post_of}
 use Rattle.limits.specs.declared.TheConstants.{MOST_PART_BYTES}
 
@@ -62,11 +62,11 @@ part_of = number_in 1 4294967295
 -- The keys of `encode`. Where no `--name` is given, the last part of the path is the name, and has to be able to.
 abbrev pub encode_keys : Bool → List Key
 encode_keys is_named =
-    record { word = codes "--input"; takes = if is_named then is_path else is_named_path }
-    ∷ record { word = codes "--name"; takes = is_header_name }
-    ∷ record { word = codes "--line"; takes = λ value. is_some (line_of value) }
-    ∷ record { word = codes "--part-size"; takes = λ value. is_some (part_size_of value) }
-    ∷ record { word = codes "--part"; takes = λ value. is_some (part_of value) } ∷ []
+    once (codes "--input") (if is_named then is_path else is_named_path)
+    ∷ once (codes "--name") is_header_name
+    ∷ once (codes "--line") (λ value. is_some (line_of value))
+    ∷ once (codes "--part-size") (λ value. is_some (part_size_of value))
+    ∷ once (codes "--part") (λ value. is_some (part_of value)) ∷ []
 
 -- what the pairs ask for, of the file at a path
 abbrev pub part_asked : List (List ℕ × List ℕ) → List ℕ → PartAsked
@@ -87,7 +87,7 @@ encode_of words = command_of (encode_keys (stands_as_key (codes "--name") words)
 -- ---- decode
 
 abbrev pub decode_keys : List Key
-decode_keys = record { word = codes "--input"; takes = is_path } ∷ record { word = codes "--form"; takes = λ value. is_some (form_of value) } ∷ []
+decode_keys = once (codes "--input") is_path ∷ once (codes "--form") (λ value. is_some (form_of value)) ∷ []
 
 -- the form that the pairs ask for, or that of a file
 abbrev pub form_asked : List (List ℕ × List ℕ) → Form
@@ -102,7 +102,7 @@ decode_of words = command_of decode_keys decode_asked words
 -- ---- check
 
 abbrev pub check_keys : List Key
-check_keys = record { word = codes "--nzb"; takes = is_path } ∷ []
+check_keys = once (codes "--nzb") is_path ∷ []
 
 abbrev pub check_asked : List (List ℕ × List ℕ) → Option Command
 check_asked pairs = option_map (λ path. Check path) (value_of (codes "--nzb") pairs)

@@ -5,7 +5,7 @@ use Rattle.std.specs.Str.{bytes_eq}
 use Rattle.article_head.specs.Field.{is_word}
 use Rattle.server_logins.specs.Server.{IsServer, is_server}
 use Rattle.nntp_lines.specs.GroupName.{IsGroupName, is_group_byte}
-use Rattle.command_words.specs.Keys.{Key, has_all, is_path, number_in, pairs_of, patience_of, text_of, value_of}
+use Rattle.command_words.specs.Keys.{Key, has_all, is_path, number_in, once, pairs_of, patience_of, text_of, value_of}
 use Rattle.command_words.specs.declared.index.IndexWords.{IndexWords}
 
 -- Articles of a newsgroup that are to be indexed: the news server's address, the newsgroup, the numbers of the first and of the
@@ -57,12 +57,12 @@ number_before key other (word ∷ value ∷ words) =
 -- The keys of `index`. Of the two ends of the range the one that comes later is judged by the one before it.
 abbrev pub index_keys : List (List ℕ) → List Key
 index_keys words =
-    record { word = codes "--server"; takes = is_server }
-    ∷ record { word = codes "--group"; takes = is_group }
-    ∷ record { word = codes "--first"; takes = is_first (number_before (codes "--last") (codes "--first") words) }
-    ∷ record { word = codes "--last"; takes = is_last (number_before (codes "--first") (codes "--last") words) }
-    ∷ record { word = codes "--patience"; takes = λ value. is_some (patience_of value) }
-    ∷ record { word = codes "--login"; takes = is_path } ∷ []
+    once (codes "--server") is_server
+    ∷ once (codes "--group") is_group
+    ∷ once (codes "--first") (is_first (number_before (codes "--last") (codes "--first") words))
+    ∷ once (codes "--last") (is_last (number_before (codes "--first") (codes "--last") words))
+    ∷ once (codes "--patience") (λ value. is_some (patience_of value))
+    ∷ once (codes "--login") is_path ∷ []
 
 -- the keys that have to be there
 abbrev pub index_required : List (List ℕ)

@@ -1,4 +1,4 @@
--- Pairs of a key and its value on the command line, in any order, each key once.
+-- Pairs of a key and its value on the command line, in any order.
 use Rattle.std.specs.Prelude.{ℕ, ◌+◌, ◌-◌, ◌==◌, ◌&&◌, ◌||◌, Bool, false, not, nat_le, List, [], ◌∷◌, ◌++◌, length, get_or, if◌then◌else◌, Result, Ok, Err, Option, Some, None, is_some, codes}
 use Rattle.std.specs.Str.{bytes_eq}
 use Rattle.std.specs.List.{list_all}
@@ -63,20 +63,30 @@ form_of value = if bytes_eq value (codes "file") then Some File else if bytes_eq
 
 -- ---- keys
 
--- a key that a command knows, and the values that it takes
+-- a key that a command knows: how often it may stand, and the values that it takes, beside those that it has so far
 pub record Key : Type 0 where
   pub word : List ℕ
-  pub takes : List ℕ → Bool
+  pub most : ℕ
+  pub takes : List (List ℕ) → List ℕ → Bool
+
+-- a key that may stand once
+abbrev pub once : List ℕ → (List ℕ → Bool) → Key
+once word takes = record { word = word; most = 1; takes = λ before. takes }
 
 -- the key that a word is
 abbrev pub key_of : List Key → List ℕ → Option Key
 key_of [] word = None
 key_of (key ∷ keys) word = if bytes_eq word key.word then Some key else key_of keys word
 
--- whether a value is one that the key takes, if there is one
-abbrev pub is_taken : Option Key → List ℕ → Bool
-is_taken None value = false
-is_taken (Some key) value = key.takes value
+-- whether a key may stand once more than so often, if there is one
+abbrev pub may_stand : Option Key → ℕ → Bool
+may_stand None times = false
+may_stand (Some key) times = nat_le (times + 1) key.most
+
+-- whether a value is one that the key takes beside those that it has, if there is one
+abbrev pub is_taken : Option Key → List (List ℕ) → List ℕ → Bool
+is_taken None before value = false
+is_taken (Some key) before value = key.takes before value
 
 -- whether a word stands where a key stands
 abbrev pub stands_as_key : List ℕ → List (List ℕ) → Bool
@@ -91,6 +101,11 @@ abbrev pub value_of : List ℕ → List (List ℕ × List ℕ) → Option (List 
 value_of word [] = None
 value_of word (pair ∷ pairs) = if bytes_eq word pair.0 then Some pair.1 else value_of word pairs
 
+-- all values that a key has in some pairs
+abbrev pub values_of : List ℕ → List (List ℕ × List ℕ) → List (List ℕ)
+values_of word [] = []
+values_of word (pair ∷ pairs) = if bytes_eq word pair.0 then pair.1 ∷ values_of word pairs else values_of word pairs
+
 -- all these keys have a value
 abbrev pub has_all : List (List ℕ) → List (List ℕ × List ℕ) → Bool
 has_all keys pairs = list_all (λ key. is_some (value_of key pairs)) keys
@@ -99,9 +114,9 @@ has_all keys pairs = list_all (λ key. is_some (value_of key pairs)) keys
 abbrev pub text_of : List ℕ → List (List ℕ × List ℕ) → List ℕ
 text_of key pairs = unwrap_or (value_of key pairs) []
 
--- whether a word can be the next key: the command knows it, and no pair so far has it
+-- whether a word can be the next key: the command knows it, and the pairs so far have it less often than it may stand
 abbrev pub is_next_key : List Key → List (List ℕ × List ℕ) → List ℕ → Bool
-is_next_key keys pairs word = is_some (key_of keys word) && not (is_some (value_of word pairs))
+is_next_key keys pairs word = may_stand (key_of keys word) (length (values_of word pairs))
 
 -- Some pairs and those in further words, of which the first has the given number, or the number of the first word that
 -- is refused: one that is no next key, or a value that its key doesn't take. A value that is missing has the number
@@ -111,5 +126,5 @@ pairs_of keys number pairs [] = Ok pairs
 pairs_of keys number pairs (word ∷ []) = if is_next_key keys pairs word then Err (number + 1) else Err number
 pairs_of keys number pairs (word ∷ value ∷ words) =
     if is_next_key keys pairs word
-    then (if is_taken (key_of keys word) value then pairs_of keys (number + 2) (pairs ++ (word, value) ∷ []) words else Err (number + 1))
+    then (if is_taken (key_of keys word) (values_of word pairs) value then pairs_of keys (number + 2) (pairs ++ (word, value) ∷ []) words else Err (number + 1))
     else Err number

@@ -4,7 +4,7 @@ use Rattle.std.specs.Option.{option_and_then, option_copied, unwrap_or}
 use Rattle.article_head.specs.Field.{IsComment, IsFileName, IsFrom, IsNewsgroups}
 use Rattle.article_head.specs.PartId.{IsDomain, IsToken}
 use Rattle.server_logins.specs.Server.{IsServer, is_server}
-use Rattle.command_words.specs.Keys.{Key, file_name, has_all, is_header_name, is_named_path, is_path, line_of, pairs_of, part_size_of, patience_of, stands_as_key, text_of, value_of}
+use Rattle.command_words.specs.Keys.{Key, file_name, has_all, is_header_name, is_named_path, is_path, line_of, once, pairs_of, part_size_of, patience_of, stands_as_key, text_of, value_of}
 use Rattle.command_words.specs.PostValues.{is_comment, is_domain, is_from, is_newsgroups, is_token}
 use Rattle.command_words.specs.declared.post.PostWords.{PostWords}
 use Rattle.limits.specs.declared.TheConstants.{MOST_PART_BYTES}
@@ -29,18 +29,18 @@ pub record PostAsked : Type 0 where
 -- The keys of `post`. Where no `--name` is given, the last part of the path is the name, and has to be able to.
 abbrev pub post_keys : Bool → List Key
 post_keys is_named =
-    record { word = codes "--input"; takes = if is_named then is_path else is_named_path }
-    ∷ record { word = codes "--server"; takes = is_server }
-    ∷ record { word = codes "--from"; takes = is_from }
-    ∷ record { word = codes "--group"; takes = is_newsgroups }
-    ∷ record { word = codes "--token"; takes = is_token }
-    ∷ record { word = codes "--domain"; takes = is_domain }
-    ∷ record { word = codes "--name"; takes = is_header_name }
-    ∷ record { word = codes "--comment"; takes = is_comment }
-    ∷ record { word = codes "--line"; takes = λ value. is_some (line_of value) }
-    ∷ record { word = codes "--part-size"; takes = λ value. is_some (part_size_of value) }
-    ∷ record { word = codes "--patience"; takes = λ value. is_some (patience_of value) }
-    ∷ record { word = codes "--login"; takes = is_path } ∷ []
+    once (codes "--input") (if is_named then is_path else is_named_path)
+    ∷ once (codes "--server") is_server
+    ∷ once (codes "--from") is_from
+    ∷ once (codes "--group") is_newsgroups
+    ∷ once (codes "--token") is_token
+    ∷ once (codes "--domain") is_domain
+    ∷ once (codes "--name") is_header_name
+    ∷ once (codes "--comment") is_comment
+    ∷ once (codes "--line") (λ value. is_some (line_of value))
+    ∷ once (codes "--part-size") (λ value. is_some (part_size_of value))
+    ∷ once (codes "--patience") (λ value. is_some (patience_of value))
+    ∷ once (codes "--login") is_path ∷ []
 
 -- the keys that have to be there
 abbrev pub post_required : List (List ℕ)

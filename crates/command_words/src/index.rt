@@ -159,5 +159,5 @@ fn is_range(first: u64, last: u64) -> bool
 fn article_in(value: &str) -> Option<u64>
     ensures { result ≡ article_of value.now }
 {
-    number_in(value, 1, MOST_ARTICLE)
+    number_in(value.as_bytes(), 1, MOST_ARTICLE)
 }

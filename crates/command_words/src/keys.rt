@@ -2,11 +2,12 @@
 ghost use Rattle.std.specs.Prelude.{◌≡◌, ◌≤◌, ◌<◌, IfSome, length, map, string_bytes};
 ghost use Rattle.std.specs.Option.{option_and_then, option_copied, option_map, unwrap_or};
 ghost use Rattle.std.specs.List.{list_all};
-ghost use Rattle.command_words.specs.Keys.{file_name as file_name_of, form_of, has_all, has_leading_zero, is_header_name, is_printable, key_of, number_in, stands_as_key, text_of, value_of};
+ghost use Rattle.command_words.specs.Keys.{file_name as file_name_of, form_of, has_all, has_leading_zero, is_header_name, is_printable, key_of, number_in, stands_as_key, text_of, value_of, values_of};
 ghost use Rattle.command_words.specs.declared.keys.Form.TheVariants.{File};
-ghost use Rattle.command_words.specs.Asked.{key_model, paired, takes_by, ChecksPair, ChecksPairs};
+ghost use Rattle.command_words.specs.Asked.{key_model, most_times, paired, takes_by, ChecksPair, ChecksPairs};
 
 use crate::index::{is_first, is_last};
+use crate::servers::{MOST_SERVERS, is_next_server};
 use article_head::{is_comment, is_domain, is_from, is_newsgroups, is_token};
 use nntp_lines::GroupName;
 use numbers::read_dec;
@@ -27,6 +28,9 @@ pub(crate) enum Rule {
     Form,
     /// Where a news server is: `HOST:PORT`.
     Server,
+    /// A news server that a fetch asks: `HOST:PORT`, then `*` and how many links, then `@` and its level. It may stand 16
+    /// times, with at most 64 links together.
+    FetchServer,
     /// Who posts an article.
     From,
     /// Names of newsgroups with commas between them.
@@ -88,13 +92,14 @@ fn check_pair(keys: &[Key], words: &[String], at: usize) -> Result<(), u64>
     let Some(key) = find_key(keys, word) else {
         return Err(number);
     };
-    if value_in(&words[..at], word).is_some() {
+    let before = &words[..at];
+    if times_in(before, word) >= most_times(key.rule) {
         return Err(number);
     }
     if at + 1 == words.len() {
         return Err(number + 1);
     }
-    if !takes(key.rule, words[at + 1].as_str()) {
+    if !takes(key.rule, before, word, words[at + 1].as_str()) {
         return Err(number + 1);
     }
     Ok(())
@@ -112,19 +117,32 @@ fn find_key(keys: &[Key], word: &str) -> Option<Key>
     None
 }
 
-// Whether a value keeps to a rule.
+// How often a key of a rule may stand.
+fn most_times(rule: Rule) -> usize
+    ensures times { result ≡ most_times rule }
+    ensures most { result ≤ 16 }
+{
+    match rule {
+        Rule::FetchServer => MOST_SERVERS,
+        _ => 1,
+    }
+}
+
+// Whether a value keeps to the rule of a key, beside the values that the key has in the words before it.
 #[tactic(auto, using(crate::proofs::PostLaws::same_from, crate::proofs::PostLaws::same_comment, crate::proofs::PostLaws::same_token))]
-fn takes(rule: Rule, value: &str) -> bool
-    ensures { result ≡ takes_by rule value.now }
+fn takes(rule: Rule, before: &[String], key: &str, value: &str) -> bool
+    requires { length (values_of key.now (paired (map string_bytes before.now))) ≤ 16 }
+    ensures { result ≡ takes_by rule (values_of key.now (paired (map string_bytes before.now))) value.now }
 {
     let bytes = value.as_bytes();
     match rule {
         Rule::Path => !value.is_empty(),
         Rule::NamedPath => is_header_name(file_name(bytes)),
         Rule::HeaderName => is_header_name(bytes),
-        Rule::Number { least, most } => number_in(value, least, most).is_some(),
+        Rule::Number { least, most } => number_in(bytes, least, most).is_some(),
         Rule::Form => form_in(value).is_some(),
         Rule::Server => is_server(bytes),
+        Rule::FetchServer => is_next_server(before, key, bytes),
         Rule::From => is_from(bytes),
         Rule::Newsgroups => is_newsgroups(bytes),
         Rule::Comment => is_comment(bytes),
@@ -148,6 +166,21 @@ pub(crate) fn value_in<'a>(words: &'a [String], key: &str) -> Option<&'a str>
         at += 2;
     }
     None
+}
+
+// How often a key stands in the pairs that these words are.
+fn times_in(words: &[String], key: &str) -> usize
+    ensures { result ≡ length (values_of key.now (paired (map string_bytes words.now))) }
+{
+    let mut times = 0;
+    let mut at = 0;
+    while at + 1 < words.len() {
+        if key == words[at].as_str() {
+            times += 1;
+        }
+        at += 2;
+    }
+    times
 }
 
 /// Whether each of these keys has a value in the pairs that these words are.
@@ -188,7 +221,7 @@ pub(crate) fn number_or(words: &[String], key: &str, least: u64, most: u64, defa
     ensures value { result ≡ unwrap_or (option_and_then (number_in least most) (value_of key.now (paired (map string_bytes words.now)))) default }
 {
     match value_in(words, key) {
-        Some(value) => match number_in(value, least, most) {
+        Some(value) => match number_in(value.as_bytes(), least, most) {
             Some(number) => number,
             None => default,
         },
@@ -197,15 +230,15 @@ pub(crate) fn number_or(words: &[String], key: &str, least: u64, most: u64, defa
 }
 
 /// The number that a value is, within limits. No zero stands in front of other digits.
-pub(crate) fn number_in(value: &str, least: u64, most: u64) -> Option<u64>
+pub(crate) fn number_in(value: &[u8], least: u64, most: u64) -> Option<u64>
     ensures value { result ≡ number_in least most value.now }
     ensures least { IfSome result (λ number. least ≤ number) }
     ensures most { IfSome result (λ number. number ≤ most) }
 {
-    if has_leading_zero(value.as_bytes()) {
+    if has_leading_zero(value) {
         return None;
     }
-    match read_dec(value.as_bytes(), most) {
+    match read_dec(value, most) {
         Some(number) if number >= least => Some(number),
         _ => None,
     }

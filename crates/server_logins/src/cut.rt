@@ -7,13 +7,15 @@ use memchr::memchr;
 
 /// A text on both sides of a byte.
 #[derive(Clone, Copy, Debug)]
-pub(crate) struct Cut<'a> {
-    pub(crate) front: &'a [u8],
-    pub(crate) behind: &'a [u8],
+pub struct Cut<'a> {
+    /// What stands in front of the byte.
+    pub front: &'a [u8],
+    /// What stands behind it.
+    pub behind: &'a [u8],
 }
 
 /// Cuts a text at the first such byte, if it stands anywhere.
-pub(crate) fn cut_at(text: &[u8], byte: u8) -> Option<Cut<'_>>
+pub fn cut_at(text: &[u8], byte: u8) -> Option<Cut<'_>>
     ensures { option_map cut_model result ≡ cut_at byte text.now }
 {
     match memchr(byte, text) {

@@ -7,6 +7,7 @@ mod line;
 mod logins;
 mod server;
 
+pub use cut::{Cut, cut_at};
 pub use laws::{logins_are_one, logins_or_broken};
 pub use logins::{LoginError, Logins, ServerLogin, read_logins};
 pub use server::is_server;

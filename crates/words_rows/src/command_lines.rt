@@ -3,7 +3,7 @@ use crate::fixtures::words_of;
 use command_words::refused_word;
 use std::process::Abort;
 
-// Names with bars between them. The longest that a header takes has 255 characters, and the first that it doesn't has one more.
+// Names with bars between them. The longest that is taken has 255 characters, and the first that is refused one more.
 const NAMES_TAKEN: &str =
     "a|a b~|aaaaaaaaaaaaaaaaaaaaaaaaaaaaaaaaaaaaaaaaaaaaaaaaaaaaaaaaaaaaaaaaaaaaaaaaaaaaaaaaaaaaaaaaaaaaaaaaaaaaaaaaaaaaaaaaaaaaaaaaaaaaaaaaaaaaaaaaaaaaaaaaaaaaaaaaaaaaaaaaaaaaaaaaaaaaaaaaaaaaaaaaaaaaaaaaaaaaaaaaaaaaaaaaaaaaaaaaaaaaaaaaaaaaaaaaaaaaaaaaaaaaaaaaaaaaaaa";
 

@@ -127,8 +127,8 @@ fn the_later_of_two_numbers_is_refused(rt: HostRuntime) {
     }
 }
 
-// Keys with values, with bars between them, and the first word that is refused. The first number, 5, or the last one, 9, is
-// the ninth word.
+// Keys with values, with bars between them, and the first word that is refused: the ninth is the other number of the two, 5 as
+// the first or 9 as the last.
 const VALUES: [(&str, &str, Option<u64>); 12] = [
     ("--server", "127.0.0.1:1190", None),
     ("--server", "h", Some(3)),

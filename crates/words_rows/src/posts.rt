@@ -160,8 +160,8 @@ fn a_key_stands_once(rt: HostRuntime) {
     }
 }
 
-// Of values with bars between them the longest has 64 letters, 65, or a text of 200 or 201.
-const NAMES_TAKEN: &str = "a|aaaaaaaaaaaaaaaaaaaaaaaaaaaaaaaaaaaaaaaaaaaaaaaaaaaaaaaaaaaaaaaa";
+// Values of a key, with bars between them. The longest that are taken have 64 letters, or 200 in a text.
+const DOMAINS_TAKEN: &str = "a|aaaaaaaaaaaaaaaaaaaaaaaaaaaaaaaaaaaaaaaaaaaaaaaaaaaaaaaaaaaaaaaa";
 
 const LETTERS_64: &str = "aaaaaaaaaaaaaaaaaaaaaaaaaaaaaaaaaaaaaaaaaaaaaaaaaaaaaaaaaaaaaaaa";
 
@@ -183,7 +183,7 @@ const COMMENTS_TAKEN: &str =
 const COMMENTS_REFUSED: &str =
     " |aaaaaaaaaaaaaaaaaaaaaaaaaaaaaaaaaaaaaaaaaaaaaaaaaaaaaaaaaaaaaaaaaaaaaaaaaaaaaaaaaaaaaaaaaaaaaaaaaaaaaaaaaaaaaaaaaaaaaaaaaaaaaaaaaaaaaaaaaaaaaaaaaaaaaaaaaaaaaaaaaaaaaaaaaaaaaaaaaaaaaaaaaaaaaaaaaaaaaaaaa";
 
-// Each key with the values that it takes and those that are refused, with bars between them: a row proves dear, a value not.
+// Each key with the values that it takes and those that are refused. They stand in texts, since a longer table is dearer to prove.
 const VALUES: [(&str, &str, &str); 12] = [
     ("--input", "d", "|d/"),
     ("--server", "127.0.0.1:1190", "h|h:0|h:0119|h:65536|h:119*4"),
@@ -194,7 +194,7 @@ const VALUES: [(&str, &str, &str); 12] = [
         "a,b,c,d,e,f,g,h,i,j,k||a,|a, b",
     ),
     ("--token", LETTERS_64, TOKENS_REFUSED),
-    ("--domain", NAMES_TAKEN, DOMAINS_REFUSED),
+    ("--domain", DOMAINS_TAKEN, DOMAINS_REFUSED),
     ("--name", "a b", ""),
     ("--comment", COMMENTS_TAKEN, COMMENTS_REFUSED),
     ("--line", "64", "998|064"),
