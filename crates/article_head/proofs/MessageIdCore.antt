@@ -10,7 +10,7 @@ use Rattle.nntp_lines.specs.Word.{IsWord}
 use Rattle.article_head.specs.PartId.{IsAtom, IsDomain, IsDotAtom, IsMessageIdCore, IsToken, is_atom_byte, is_label_byte, is_token_byte, part_id_text}
 use Rattle.article_head.proofs.PartIdLaws.{part_id_is_message_id}
 use Rattle.article_head.proofs.TextLaws.{AllPassed, append_passed, decimal_passed, wider_passed}
-use Rattle.limits.specs.declared.TheConstants.{MOST_SEGMENTS}
+use Rattle.limits.specs.declared.TheConstants.{MOST_ID_BYTES, MOST_SEGMENTS}
 
 alphanumeric_atom : (byte : ℕ) → is_ascii_alphanumeric byte ≡ true → is_atom_byte byte ≡ true
 alphanumeric_atom byte h = or_left (is_ascii_alphanumeric byte) _ h
@@ -55,7 +55,7 @@ domain_is_dot_atom : (domain : List ℕ) → IsDomain domain → IsDotAtom domai
 domain_is_dot_atom domain d = record {
   atoms = d.labels;
   some = d.some;
-  valid = All-weaker (IsWord is_label_byte 64) IsAtom (λ label w. (w.some, wider_passed is_label_byte is_atom_byte label_atom label w.all)) d.labels d.valid;
+  valid = All-weaker (IsWord is_label_byte MOST_ID_BYTES) IsAtom (λ label w. (w.some, wider_passed is_label_byte is_atom_byte label_atom label w.all)) d.labels d.valid;
   joined = d.joined;
 }
 

@@ -10,7 +10,7 @@ use Rattle.nntp_lines.specs.MessageId.{IsMessageId, is_id_byte}
 use Rattle.nntp_lines.specs.Word.{IsWord}
 use Rattle.article_head.specs.PartId.{IsDomain, IsToken, is_label_byte, is_token_byte, part_id_text}
 use Rattle.article_head.proofs.TextLaws.{AllPassed, append_passed, decimal_passed, joined_passed, wider_passed}
-use Rattle.limits.specs.declared.TheConstants.{MOST_SEGMENTS}
+use Rattle.limits.specs.declared.TheConstants.{MOST_ID_BYTES, MOST_SEGMENTS}
 
 token_byte : (byte : ℕ) → is_token_byte byte ≡ true → is_id_byte byte ≡ true
 token_byte byte h = grind (arith, nat_tests)
@@ -26,7 +26,7 @@ digit_byte byte h = grind (arith, nat_tests)
 domain_passed : (domain : List ℕ) → IsDomain domain → AllPassed is_id_byte domain
 domain_passed domain h =
     rw h.joined (joined_passed is_id_byte 46 refl h.labels
-    (All-weaker (IsWord is_label_byte 64) (AllPassed is_id_byte) (λ label w. wider_passed is_label_byte is_id_byte label_byte label w.all) h.labels h.valid))
+    (All-weaker (IsWord is_label_byte MOST_ID_BYTES) (AllPassed is_id_byte) (λ label w. wider_passed is_label_byte is_id_byte label_byte label w.all) h.labels h.valid))
 
 number_length : (n : ℕ) → n ≤ MOST_SEGMENTS → length (decimal n) ≤ 6
 number_length n most = length-decimal-le 6 n (lit< tt) (omega arith) (omega arith)

@@ -10,6 +10,7 @@ use Rattle.nntp_lines.specs.GroupName.{IsGroupName, is_group_byte}
 use Rattle.nntp_lines.specs.Word.{IsWord}
 use Rattle.article_head.specs.Field.{IsNewsgroups, is_word, names_of}
 use Rattle.article_head.specs.PartId.{IsDomain, is_label_byte, labels_of}
+use Rattle.limits.specs.declared.TheConstants.{MOST_ID_BYTES}
 
 -- the byte stands nowhere in a piece
 abbrev pub Misses : ℕ → List ℕ → Type 0
@@ -103,17 +104,17 @@ names_from_newsgroups text newsgroups =
 no_dot : (x : ℕ) → is_label_byte x ≡ true → (x == 46) ≡ false
 no_dot x h = grind (arith, nat_tests)
 
-pub domain_from_labels : (text : List ℕ) → length text ≤ 64 → list_all (is_word is_label_byte 64) (labels_of text) ≡ true → IsDomain text
+pub domain_from_labels : (text : List ℕ) → length text ≤ MOST_ID_BYTES → list_all (is_word is_label_byte MOST_ID_BYTES) (labels_of text) ≡ true → IsDomain text
 domain_from_labels text short passed = record {
   labels = labels_of text;
   some = split_some 46 text;
-  valid = words_from_test is_label_byte 64 (labels_of text) passed;
+  valid = words_from_test is_label_byte MOST_ID_BYTES (labels_of text) passed;
   joined = sym (join_with_byte-slice_split 46 text);
   short = short;
 }
 
-pub labels_from_domain : (text : List ℕ) → IsDomain text → list_all (is_word is_label_byte 64) (labels_of text) ≡ true
+pub labels_from_domain : (text : List ℕ) → IsDomain text → list_all (is_word is_label_byte MOST_ID_BYTES) (labels_of text) ≡ true
 labels_from_domain text domain =
     let same : labels_of (join_with_byte 46 domain.labels) ≡ domain.labels =
-    split_joined 46 domain.labels domain.some (All-weaker (IsWord is_label_byte 64) (Misses 46) (λ label w. misses is_label_byte 46 no_dot label w.all) domain.labels domain.valid) in
-    rw (domain.joined, same) (test_from_words is_label_byte 64 domain.labels domain.valid)
+    split_joined 46 domain.labels domain.some (All-weaker (IsWord is_label_byte MOST_ID_BYTES) (Misses 46) (λ label w. misses is_label_byte 46 no_dot label w.all) domain.labels domain.valid) in
+    rw (domain.joined, same) (test_from_words is_label_byte MOST_ID_BYTES domain.labels domain.valid)

@@ -11,6 +11,7 @@ use Rattle.article_head.specs.OutName.{out_name}
 use Rattle.article_head.specs.PartId.{IsDomain, IsToken, is_label_byte, part_id_text}
 use Rattle.article_head.specs.QuotedName.{quoted_name}
 use Rattle.article_head.specs.Subject.{subject_text}
+use Rattle.limits.specs.declared.TheConstants.{MOST_ID_BYTES}
 
 -- ---- fields
 
@@ -76,17 +77,17 @@ token_with_dot h = let e = h.all in cc
 pub token_too_long : ¬ IsToken (replicate 65 97)
 token_too_long h = omega (arith, h.short)
 
-a_label : IsWord is_label_byte 64 (codes "example")
+a_label : IsWord is_label_byte MOST_ID_BYTES (codes "example")
 a_label = record { some = lit≤ tt; short = lit≤ tt; all = refl }
 
-another_label : IsWord is_label_byte 64 (codes "org")
+another_label : IsWord is_label_byte MOST_ID_BYTES (codes "org")
 another_label = record { some = lit≤ tt; short = lit≤ tt; all = refl }
 
 pub domain : IsDomain (codes "example.org")
 domain = record {
   labels = codes "example" ∷ codes "org" ∷ [];
   some = lit≤ tt;
-  valid = All-cons (IsWord is_label_byte 64) (codes "example") (codes "org" ∷ []) a_label (All-cons (IsWord is_label_byte 64) (codes "org") [] another_label (All-nil (IsWord is_label_byte 64)));
+  valid = All-cons (IsWord is_label_byte MOST_ID_BYTES) (codes "example") (codes "org" ∷ []) a_label (All-cons (IsWord is_label_byte MOST_ID_BYTES) (codes "org") [] another_label (All-nil (IsWord is_label_byte MOST_ID_BYTES)));
   joined = refl;
   short = lit≤ tt;
 }

@@ -4,7 +4,7 @@ use Rattle.std.specs.Prelude.{◌≡◌, ◌≢◌, ℕ, ◌≤◌, Bool, ◌||�
 use Rattle.std.specs.Char.{is_ascii_alphanumeric}
 use Rattle.std.specs.List.{join_with_byte, list_all, list_any, slice_split}
 use Rattle.nntp_lines.specs.Word.{IsWord}
-use Rattle.limits.specs.declared.TheConstants.{MOST_SEGMENTS}
+use Rattle.limits.specs.declared.TheConstants.{MOST_ID_BYTES, MOST_SEGMENTS}
 
 -- a letter, a digit, `-` or `_`
 abbrev pub is_token_byte : ℕ → Bool
@@ -12,7 +12,7 @@ is_token_byte byte = is_ascii_alphanumeric byte || byte == 45 || byte == 95
 
 -- what the ids of all parts of a file begin with
 abbrev pub IsToken : List ℕ → Type 0
-IsToken token = IsWord is_token_byte 64 token
+IsToken token = IsWord is_token_byte MOST_ID_BYTES token
 
 -- a letter, a digit or `-`
 abbrev pub is_label_byte : ℕ → Bool
@@ -26,9 +26,9 @@ labels_of domain = slice_split (λ byte. byte == 46) domain
 pub record IsDomain (domain : List ℕ) : Type 0 where
   pub labels : List (List ℕ)
   pub some : 1 ≤ length labels
-  pub valid : All (IsWord is_label_byte 64) labels
+  pub valid : All (IsWord is_label_byte MOST_ID_BYTES) labels
   pub joined : domain ≡ join_with_byte 46 labels
-  pub short : length domain ≤ 64
+  pub short : length domain ≤ MOST_ID_BYTES
 
 -- the message-id, without its angle brackets
 unfoldable pub part_id_text : (token domain : List ℕ) (part total : ℕ) → List ℕ

@@ -2,7 +2,7 @@
 // on this machine.
 ghost use Rattle.std.specs.Prelude.{◌≡◌, slice_get, Some, true};
 
-use crate::fixtures::{door_of, ends, filled, hear, hears, opened, peer_of, refused, says, shut};
+use crate::fixtures::{door_of, ends, filled, hear, hears, opened, peer_of, refused, says};
 use io_system::TcpLinks;
 use io_traits::{Got, Links};
 use std::io;
@@ -37,14 +37,6 @@ fn bytes_go_both_ways_until_the_peer_closes(rt: HostRuntime) {
     drop(peer);
     let links = ends(&rt, links, link, Got::Closed);
     assert!(rt; links.reason().is_none());
-}
-
-#[test]
-fn an_address_that_is_refused_is_a_fault(rt: HostRuntime) {
-    let address = shut(door_of(&rt));
-    let links = TcpLinks::new(rt.alloc(), &rt);
-    let links = refused(&rt, links, address.as_bytes());
-    assert!(rt; links.reason().is_some());
 }
 
 // Asserts that the last call failed for this reason.
@@ -146,32 +138,22 @@ fn takes_all<L: Links + Drop, R: Abort>(
     rt: &R,
     mut links: L,
     link: u32,
-    mut peer: TcpStream,
+    peer: &mut TcpStream,
     many: &[u8],
-)
+) -> L
     requires { slice_get (L.live links) link ≡ Some true }
+    ensures { slice_get (L.live result) link ≡ Some true }
 {
-    let mut sent = exchange(rt, &mut links, link, &mut peer, many, 0);
+    let mut sent = exchange(rt, &mut links, link, peer, many, 0);
     assert!(rt; sent < MANY, "the link takes a part");
     for _turn in 0..100 {
         if sent == MANY {
             break;
         }
-        sent = exchange(rt, &mut links, link, &mut peer, many, sent);
+        sent = exchange(rt, &mut links, link, peer, many, sent);
     }
     assert_eq!(rt; sent, MANY);
-}
-
-#[test]
-fn a_send_past_a_slow_reader_tells_what_went_out(rt: HostRuntime) {
-    let door = door_of(&rt);
-    let links = TcpLinks::new(rt.alloc(), &rt);
-    let (links, link) = opened(&rt, links, door.address.as_bytes());
-    let peer = peer_of(&rt, &door);
-    let moment = Duration::from_millis(200);
-    peer.set_read_timeout(Some(moment)).expect(&rt, "a peer");
-    let many = many_bytes(&rt);
-    takes_all(&rt, links, link, peer, many.as_slice());
+    links
 }
 
 // Writes from a place on as much as the peer's socket takes, and answers the place behind that.
@@ -213,7 +195,7 @@ fn gives_all<L: Links + Drop, R: Abort>(
     rt: &R,
     mut links: L,
     link: u32,
-    mut peer: TcpStream,
+    peer: &mut TcpStream,
     many: &[u8],
 )
     requires { slice_get (L.live links) link ≡ Some true }
@@ -224,7 +206,7 @@ fn gives_all<L: Links + Drop, R: Abort>(
         if heard == MANY {
             break;
         }
-        written = write_all(&mut peer, many, written);
+        written = write_all(peer, many, written);
         heard = hear_all(rt, &mut links, link, many, heard);
     }
     assert_eq!(rt; heard, MANY);
@@ -232,14 +214,17 @@ fn gives_all<L: Links + Drop, R: Abort>(
 }
 
 #[test]
-fn all_bytes_of_a_fast_peer_are_heard(rt: HostRuntime) {
+fn many_bytes_go_both_ways(rt: HostRuntime) {
     let door = door_of(&rt);
     let links = TcpLinks::new(rt.alloc(), &rt);
     let (links, link) = opened(&rt, links, door.address.as_bytes());
-    let peer = peer_of(&rt, &door);
-    peer.set_nonblocking(true).expect(&rt, "a peer");
+    let mut peer = peer_of(&rt, &door);
     let many = many_bytes(&rt);
-    gives_all(&rt, links, link, peer, many.as_slice());
+    let moment = Duration::from_millis(200);
+    peer.set_read_timeout(Some(moment)).expect(&rt, "a peer");
+    let links = takes_all(&rt, links, link, &mut peer, many.as_slice());
+    peer.set_nonblocking(true).expect(&rt, "a peer");
+    gives_all(&rt, links, link, &mut peer, many.as_slice());
 }
 
 #[test]

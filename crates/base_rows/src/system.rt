@@ -18,15 +18,6 @@ fn lacks<I: Input + Drop, R: Abort>(rt: &R, mut input: I, name: &str) -> I {
     input
 }
 
-// Asserts that a file has this size.
-fn opens<I: Input + Drop, R: Abort>(rt: &R, mut input: I, name: &str, size: u64) -> I
-    ensures { I.current result ≡ Some size }
-{
-    let len = input.open(name).expect(rt, "a file");
-    assert_eq!(rt; len, size);
-    input
-}
-
 // Asserts that a read of 4 bytes at a place of the current file, which has this size, gets these.
 fn reads<I: Input + Drop, R: Abort>(rt: &R, mut input: I, size: u64, place: u64, wanted: &[u8]) -> I
     requires { I.current input ≡ Some size }
@@ -39,15 +30,20 @@ fn reads<I: Input + Drop, R: Abort>(rt: &R, mut input: I, size: u64, place: u64,
     input
 }
 
-#[test]
-fn files_are_opened_and_read(rt: HostRuntime) {
-    fs::write(&rt, "some file", b"123456789").expect(&rt, "a file");
-    let input = lacks(&rt, FileInput::new(&rt), "none");
-    assert!(rt; input.reason().is_some());
-    let input = lacks(&rt, input, ".");
-    let input = opens(&rt, input, "some file", 9);
-    let input = reads(&rt, input, 9, 7, b"89");
-    reads(&rt, input, 9, 0, b"1234");
+// Asserts that a file has this size, and these bytes at these places.
+fn has<I: Input + Drop, R: Abort>(
+    rt: &R,
+    mut input: I,
+    name: &str,
+    size: u64,
+    rows: &[(u64, &str)],
+) -> I {
+    let len = input.open(name).expect(rt, "a file");
+    assert_eq!(rt; len, size);
+    for row in rows {
+        input = reads(rt, input, size, row.0, row.1.as_bytes());
+    }
+    input
 }
 
 // How many bytes a long file has: more than two buffers.
@@ -62,16 +58,22 @@ fn put_at(content: &mut [u8], place: usize, bytes: &[u8]) {
     }
 }
 
+const SHORT_FILE: [(u64, &str); 2] = [(7, "89"), (0, "1234")];
+
+const LONG_FILE: [(u64, &str); 3] = [(150_000, "far!"), (70_000, "near"), (199_999, ".")];
+
 #[test]
-fn a_file_is_read_at_far_places(rt: HostRuntime) {
+fn files_are_opened_and_read(rt: HostRuntime) {
     let mut content = filled(&rt, b'.', LONG);
     put_at(&mut content, 70_000, b"near");
     put_at(&mut content, 150_000, b"far!");
     fs::write(&rt, "long file", content.as_slice()).expect(&rt, "a file");
-    let input = opens(&rt, FileInput::new(&rt), "long file", 200_000);
-    let input = reads(&rt, input, 200_000, 150_000, b"far!");
-    let input = reads(&rt, input, 200_000, 70_000, b"near");
-    reads(&rt, input, 200_000, 199_999, b".");
+    fs::write(&rt, "some file", b"123456789").expect(&rt, "a file");
+    let input = lacks(&rt, FileInput::new(&rt), "none");
+    assert!(rt; input.reason().is_some());
+    let input = lacks(&rt, input, ".");
+    let input = has(&rt, input, "some file", 9, &SHORT_FILE);
+    has(&rt, input, "long file", 200_000, &LONG_FILE);
 }
 
 // Asserts that a sink takes so many of these bytes.
@@ -82,61 +84,24 @@ fn takes<S: Sink + Drop, R: Abort>(rt: &R, mut sink: S, bytes: &[u8], count: usi
 }
 
 #[test]
-fn standard_output_takes_bytes(rt: HostRuntime) {
+fn standard_streams_take_bytes(rt: HostRuntime) {
     let out = takes(&rt, OutSink::new(rt.stdout()), b"out\n", 4);
     takes(&rt, out, b"", 0);
-}
-
-#[test]
-fn standard_error_takes_bytes(rt: HostRuntime) {
     takes(&rt, ErrSink::new(rt.stderr()), b"err\n", 4);
 }
 
-// A stream that takes no byte.
-#[derive(Drop)]
-struct FullStream;
-
-impl AsRawFd for FullStream {
-    fn as_raw_fd(&self) -> RawFd {
-        -1
-    }
-}
-
-impl Print for FullStream {
-    fn print<D: Display + Drop>(&self, _value: D) -> io::Result<()> {
-        Err(io::Error::from(ErrorKind::StorageFull))
-    }
-
-    fn println<D: Display + Drop>(&self, _value: D) -> io::Result<()> {
-        Err(io::Error::from(ErrorKind::StorageFull))
-    }
-
-    fn write_all(&self, _bytes: &[u8]) -> io::Result<()> {
-        Err(io::Error::from(ErrorKind::StorageFull))
-    }
-
-    fn write_some(&self, _bytes: &[u8]) -> io::Result<usize> {
-        Ok(0)
-    }
-}
-
-#[test]
-fn a_write_of_no_byte_is_a_fault(rt: HostRuntime) {
-    let mut out = OutSink::new(FullStream);
-    assert!(rt; out.write(b"out\n").is_err());
-    assert!(rt; out.reason().is_some());
-    assert!(rt; out.write(b"").is_ok());
-}
-
-// A stream whose bytes go to a socket of this machine.
+// A stream whose bytes go to a socket of this machine. Without one it takes no byte.
 #[derive(Drop)]
 struct SocketStream {
-    socket: UnixStream,
+    socket: Option<UnixStream>,
 }
 
 impl AsRawFd for SocketStream {
     fn as_raw_fd(&self) -> RawFd {
-        self.socket.as_raw_fd()
+        match &self.socket {
+            Some(socket) => socket.as_raw_fd(),
+            None => -1,
+        }
     }
 }
 
@@ -154,8 +119,22 @@ impl Print for SocketStream {
     }
 
     fn write_some(&self, bytes: &[u8]) -> io::Result<usize> {
-        (&self.socket).write(bytes)
+        match &self.socket {
+            Some(socket) => {
+                let mut socket = socket;
+                socket.write(bytes)
+            }
+            None => Ok(0),
+        }
     }
+}
+
+#[test]
+fn a_write_of_no_byte_is_a_fault(rt: HostRuntime) {
+    let mut out = OutSink::new(SocketStream { socket: None });
+    assert!(rt; out.write(b"out\n").is_err());
+    assert!(rt; out.reason().is_some());
+    assert!(rt; out.write(b"").is_ok());
 }
 
 // How many bytes come until none does any more.
@@ -182,7 +161,9 @@ fn pair_of<R: Abort + Net>(rt: &R) -> (UnixStream, UnixStream) {
 #[test]
 fn a_write_of_a_part_is_told_as_that(rt: HostRuntime) {
     let (socket, reader) = pair_of(&rt);
-    let mut out = OutSink::new(SocketStream { socket });
+    let mut out = OutSink::new(SocketStream {
+        socket: Some(socket),
+    });
     let many = filled(&rt, b'x', 8_000_000);
     let written = out.write(many.as_slice()).expect(&rt, "a write");
     assert!(rt; written > 0);

@@ -70,7 +70,7 @@ fn quiet_turns<L: Links + Drop, R: Abort>(
 }
 
 #[test]
-fn the_link_that_has_bytes_is_heard_next(rt: HostRuntime) {
+fn quiet_links_take_turns_until_one_has_bytes(rt: HostRuntime) {
     let door = door_of(&rt);
     let links = TcpLinks::new(rt.alloc(), &rt);
     let (links, first, second) = opened_two(&rt, links, door.address.as_bytes());
@@ -78,26 +78,17 @@ fn the_link_that_has_bytes_is_heard_next(rt: HostRuntime) {
     let mut second_peer = peer_of(&rt, &door);
     let (links, of_first) = quiet_turns(&rt, links, first, second, 4);
     assert_eq!(rt; of_first, 2, "they are answered in turn");
+    let begun = Instant::now(&rt).expect(&rt, "a clock");
+    let (links, of_first) = quiet_turns(&rt, links, first, second, 20);
+    let passed = begun.elapsed(&rt).expect(&rt, "a clock");
+    // Ten on each link take 200 milliseconds, and those of both pass together.
+    assert!(rt; of_first <= 10 && passed >= Duration::from_millis(180));
     second_peer.write_all(b"200 hi\r\n").expect(&rt, "a peer");
     let links = is_second(&rt, links, first, second);
     let links = hears(&rt, links, second, 8, b"200 hi\r\n");
     drop(second_peer);
     let links = is_second(&rt, links, first, second);
     ends(&rt, links, second, Got::Closed);
-}
-
-#[test]
-fn quiet_receives_are_twenty_milliseconds_apart(rt: HostRuntime) {
-    let door = door_of(&rt);
-    let links = TcpLinks::new(rt.alloc(), &rt);
-    let (links, first, second) = opened_two(&rt, links, door.address.as_bytes());
-    let _first_peer = peer_of(&rt, &door);
-    let _second_peer = peer_of(&rt, &door);
-    let begun = Instant::now(&rt).expect(&rt, "a clock");
-    let (_links, of_first) = quiet_turns(&rt, links, first, second, 20);
-    let passed = begun.elapsed(&rt).expect(&rt, "a clock");
-    // Ten on each link take 200 milliseconds, and those of both pass together.
-    assert!(rt; of_first <= 10 && passed >= Duration::from_millis(180));
 }
 
 // A network on which no address answers, that counts the openings.
@@ -157,6 +148,7 @@ fn an_address_that_refused_is_tried_again(rt: HostRuntime) {
     let address = shut(door_of(&rt));
     let links = TcpLinks::new(rt.alloc(), &rt);
     let links = refused(&rt, links, address.as_bytes());
+    assert!(rt; links.reason().is_some());
     let _listener = TcpListener::bind(&rt, address.as_str()).expect(&rt, "a listener");
     opened(&rt, links, address.as_bytes());
 }

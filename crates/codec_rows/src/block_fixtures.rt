@@ -1,6 +1,4 @@
 // A block that is decoded in pieces.
-ghost use Rattle.std.specs.Prelude.{◌≤◌, length};
-
 use fused_decoder::{Ending, Event, Fused};
 use lists::Bytes;
 use std::alloc::Global;
@@ -34,10 +32,11 @@ pub(crate) enum Reply {
     TurnAway,
 }
 
-// Hands in one piece.
-fn feed(fused: &mut Fused, reply: Reply, piece: &[u8], decoded: &mut Decoded) -> Result<(), Fail>
-    requires { length piece.now ≤ 2048 }
-{
+// Hands in one piece, of at most 2048 bytes.
+fn feed(fused: &mut Fused, reply: Reply, piece: &[u8], decoded: &mut Decoded) -> Result<(), Fail> {
+    if piece.len() > 2048 {
+        return Err(Fail::from("a short piece"));
+    }
     let mut buffer = [0; 2048];
     buffer[..piece.len()].copy_from_slice(piece);
     let mut at = 0;
@@ -64,15 +63,17 @@ fn feed(fused: &mut Fused, reply: Reply, piece: &[u8], decoded: &mut Decoded) ->
 }
 
 /// Decodes a block that comes in two pieces.
-pub(crate) fn in_two(alloc: Global, reply: Reply, block: &[u8], cut: usize) -> Result<Decoded, Fail>
-    requires inside { cut ≤ length block.now }
-    requires small { length block.now ≤ 2048 }
-{
+pub(crate) fn in_two(
+    alloc: Global,
+    reply: Reply,
+    front: &[u8],
+    back: &[u8],
+) -> Result<Decoded, Fail> {
     let mut fused = Fused::start();
     let mut decoded = Decoded::new(alloc);
-    feed(&mut fused, reply, &block[..cut], &mut decoded)?;
+    feed(&mut fused, reply, front, &mut decoded)?;
     if decoded.ending.is_none() {
-        feed(&mut fused, reply, &block[cut..], &mut decoded)?;
+        feed(&mut fused, reply, back, &mut decoded)?;
     }
     Ok(decoded)
 }
@@ -81,9 +82,9 @@ pub(crate) fn in_two(alloc: Global, reply: Reply, block: &[u8], cut: usize) -> R
 pub(crate) fn by_bytes(alloc: Global, reply: Reply, block: &[u8]) -> Result<Decoded, Fail> {
     let mut fused = Fused::start();
     let mut decoded = Decoded::new(alloc);
-    for at in 0..block.len() {
+    for byte in block {
         if decoded.ending.is_none() {
-            feed(&mut fused, reply, &block[at..at + 1], &mut decoded)?;
+            feed(&mut fused, reply, &[*byte], &mut decoded)?;
         }
     }
     Ok(decoded)

@@ -5,9 +5,16 @@ use std::test::Fail;
 use yenc_body::{BodySpec, split_text, write_body};
 use yenc_lines::Name;
 
+// The lines of a middle part, behind another line, and those of a last one, with bars between them.
+const MIDDLE: &str =
+    "before|=ybegin part=2 total=3 line=128 size=27 name=t|=ypart begin=10 end=18|[\\]^_`abc|=yend size=9 part=2 pcrc32=cbf43926";
+
+const LAST: &str =
+    "=ybegin part=2 total=2 line=128 size=9 name=d|=ypart begin=9 end=9|c|=yend size=1 part=2 pcrc32=8d076785";
+
 #[test]
-fn a_middle_part_has_its_place(rt: HostRuntime) -> Result<(), Fail> {
-    let spec = BodySpec {
+fn a_part_of_several_has_its_place(rt: HostRuntime) -> Result<(), Fail> {
+    let middle = BodySpec {
         name: Name::new(b"t").ok_or("a name")?,
         part: 2,
         total: 3,
@@ -17,21 +24,9 @@ fn a_middle_part_has_its_place(rt: HostRuntime) -> Result<(), Fail> {
     };
     let mut lines = Lines::new(rt.alloc());
     lines.push(b"before")?;
-    write_body(&spec, b"123456789", &mut lines)?;
-    let wanted: [&[u8]; 5] = [
-        b"before",
-        b"=ybegin part=2 total=3 line=128 size=27 name=t",
-        b"=ypart begin=10 end=18",
-        b"[\\]^_`abc",
-        b"=yend size=9 part=2 pcrc32=cbf43926",
-    ];
-    assert!(rt; are_lines(&lines, &wanted));
-    Ok(())
-}
-
-#[test]
-fn a_last_part_may_be_short(rt: HostRuntime) -> Result<(), Fail> {
-    let spec = BodySpec {
+    write_body(&middle, b"123456789", &mut lines)?;
+    assert!(rt; are_lines(&lines, MIDDLE));
+    let last = BodySpec {
         name: Name::new(b"d").ok_or("a name")?,
         part: 2,
         total: 2,
@@ -39,15 +34,9 @@ fn a_last_part_may_be_short(rt: HostRuntime) -> Result<(), Fail> {
         size: 9,
         line: 128,
     };
-    let mut lines = Lines::new(rt.alloc());
-    write_body(&spec, b"9", &mut lines)?;
-    let wanted: [&[u8]; 4] = [
-        b"=ybegin part=2 total=2 line=128 size=9 name=d",
-        b"=ypart begin=9 end=9",
-        b"c",
-        b"=yend size=1 part=2 pcrc32=8d076785",
-    ];
-    assert!(rt; are_lines(&lines, &wanted));
+    lines.clear();
+    write_body(&last, b"9", &mut lines)?;
+    assert!(rt; are_lines(&lines, LAST));
     Ok(())
 }
 
@@ -77,21 +66,23 @@ fn a_whole_file_has_the_single_form(rt: HostRuntime) -> Result<(), Fail> {
     Ok(())
 }
 
+// Texts, and their lines with bars between them.
+const TEXTS: [(&str, &str); 7] = [
+    ("a", "a"),
+    ("a\n", "a"),
+    ("a\r\nb\nc\r", "a|b|c\r"),
+    ("\n\r\n", "|"),
+    ("a\r\r\n", "a\r"),
+    ("a\rb\n\n", "a\rb|"),
+    ("\r", "\r"),
+];
+
 #[test]
 fn a_text_is_cut_at_each_lf(rt: HostRuntime) -> Result<(), Fail> {
-    let rows: [(&[u8], &[&[u8]]); 8] = [
-        (b"", &[]),
-        (b"a", &[b"a"]),
-        (b"a\n", &[b"a"]),
-        (b"a\r\nb\nc\r", &[b"a", b"b", b"c\r"]),
-        (b"\n\r\n", &[b"", b""]),
-        (b"a\r\r\n", &[b"a\r"]),
-        (b"a\rb\n\n", &[b"a\rb", b""]),
-        (b"\r", &[b"\r"]),
-    ];
-    for (text, wanted) in rows {
-        let lines = split_text(rt.alloc(), text)?;
-        assert!(rt; are_lines(&lines, wanted));
+    assert!(rt; split_text(rt.alloc(), b"")?.is_empty());
+    for (text, wanted) in TEXTS {
+        let lines = split_text(rt.alloc(), text.as_bytes())?;
+        assert!(rt; are_lines(&lines, wanted), "{text:?}");
     }
     Ok(())
 }

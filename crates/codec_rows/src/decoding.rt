@@ -38,38 +38,41 @@ fn a_line_is_refused_at_its_first_fault(rt: HostRuntime) {
     assert_eq!(rt; &bare[2..], b"\0=".as_slice());
 }
 
+// Digits and the greatest number that is taken, with what they say.
+const NUMBERS: [(&str, u64, Option<u64>); 8] = [
+    ("", 9, None),
+    ("9", 9, Some(9)),
+    ("10", 9, None),
+    ("0009", 9, Some(9)),
+    ("9x", 99, None),
+    ("+9", 99, None),
+    ("18446744073709551615", u64::MAX, Some(u64::MAX)),
+    ("18446744073709551616", u64::MAX, None),
+];
+
+const HEX_NUMBERS: [(&str, Option<u32>); 6] = [
+    ("", None),
+    ("1", Some(1)),
+    ("CBF43926", Some(0xcbf4_3926)),
+    ("cbf43926", Some(0xcbf4_3926)),
+    ("0cbf43926", None),
+    ("g", None),
+];
+
 #[test]
 fn numbers_are_read_up_to_their_limit(rt: HostRuntime) {
-    let rows: [(&[u8], u64, Option<u64>); 8] = [
-        (b"", 9, None),
-        (b"9", 9, Some(9)),
-        (b"10", 9, None),
-        (b"0009", 9, Some(9)),
-        (b"9x", 99, None),
-        (b"+9", 99, None),
-        (b"18446744073709551615", u64::MAX, Some(u64::MAX)),
-        (b"18446744073709551616", u64::MAX, None),
-    ];
-    for (digits, max, value) in rows {
-        assert_eq!(rt; read_dec(digits, max), value);
+    for (digits, max, value) in NUMBERS {
+        assert_eq!(rt; read_dec(digits.as_bytes(), max), value);
     }
-    let rows: [(&[u8], Option<u32>); 6] = [
-        (b"", None),
-        (b"1", Some(1)),
-        (b"CBF43926", Some(0xcbf4_3926)),
-        (b"cbf43926", Some(0xcbf4_3926)),
-        (b"0cbf43926", None),
-        (b"g", None),
-    ];
-    for (digits, value) in rows {
-        assert_eq!(rt; read_hex32(digits), value);
+    for (digits, value) in HEX_NUMBERS {
+        assert_eq!(rt; read_hex32(digits.as_bytes()), value);
     }
 }
 
 #[test]
 fn header_lines_are_read(rt: HostRuntime) -> Result<(), Fail> {
     let begin = read_begin(
-        b"=ybegin part=1 total=1 line=128  size=9 x y=3 name= my  file.txt ",
+        "=ybegin part=1 total=1 line=128  size=9 x y=3 name= my  file.txt ".as_bytes(),
     ).map_err(|_| "a header line")?;
     assert_eq!(rt; begin.part, Some(1));
     assert_eq!(rt; begin.total, Some(1));
@@ -79,60 +82,73 @@ fn header_lines_are_read(rt: HostRuntime) -> Result<(), Fail> {
     Ok(())
 }
 
+// Header lines, and the first fault of each.
+const BAD_HEADERS: [(&str, KeyFault); 8] = [
+    ("=ybeginx", KeyFault::NotIt),
+    ("=ybegin line=128 size=9", KeyFault::NoItem(Key::Name)),
+    ("=ybegin line=128 name=d", KeyFault::NoItem(Key::Size)),
+    ("=ybegin size=9 name=  ", KeyFault::BadName),
+    (
+        "=ybegin part=0 size=x name=d",
+        KeyFault::BadNumber(Key::Part),
+    ),
+    (
+        "=ybegin size=9 size=x name=d",
+        KeyFault::Repeated(Key::Size),
+    ),
+    (
+        "=ybegin size=1099511627777 name=d",
+        KeyFault::BadNumber(Key::Size),
+    ),
+    (
+        "=ybegin line=4294967296 size=9 name=d",
+        KeyFault::BadNumber(Key::Line),
+    ),
+];
+
 #[test]
 fn header_lines_are_refused_for_their_first_fault(rt: HostRuntime) {
-    let rows: [(&[u8], KeyFault); 8] = [
-        (b"=ybeginx", KeyFault::NotIt),
-        (b"=ybegin line=128 size=9", KeyFault::NoItem(Key::Name)),
-        (b"=ybegin line=128 name=d", KeyFault::NoItem(Key::Size)),
-        (b"=ybegin size=9 name=  ", KeyFault::BadName),
-        (
-            b"=ybegin part=0 size=x name=d",
-            KeyFault::BadNumber(Key::Part),
-        ),
-        (
-            b"=ybegin size=9 size=x name=d",
-            KeyFault::Repeated(Key::Size),
-        ),
-        (
-            b"=ybegin size=1099511627777 name=d",
-            KeyFault::BadNumber(Key::Size),
-        ),
-        (
-            b"=ybegin line=4294967296 size=9 name=d",
-            KeyFault::BadNumber(Key::Line),
-        ),
-    ];
-    for (line, fault) in rows {
-        assert!(rt; matches!(read_begin(line), Err(found) if found == fault));
+    for (line, fault) in BAD_HEADERS {
+        assert!(rt; matches!(read_begin(line.as_bytes()), Err(found) if found == fault));
     }
 }
 
-#[test]
-fn part_and_trailer_lines_are_read(rt: HostRuntime) {
-    assert_eq!(rt;
-        read_part(b"=ypart end=18 begin=10"),
-        Ok(PartLine { begin: 10, end: 18 })
-    );
-    assert_eq!(rt;
-        read_part(b"=ypart begin=10"),
-        Err(KeyFault::NoItem(Key::End))
-    );
-    assert_eq!(rt;
-        read_part(b"=ypart begin=0 end=18"),
-        Err(KeyFault::BadNumber(Key::Begin))
-    );
-    assert_eq!(rt;
-        read_end(b"=yend size=9 part=1 pcrc32=CBF43926 crc32=1  "),
+// Part lines, and what they say.
+const PART_LINES: [(&str, Result<PartLine, KeyFault>); 3] = [
+    (
+        "=ypart end=18 begin=10",
+        Ok(PartLine { begin: 10, end: 18 }),
+    ),
+    ("=ypart begin=10", Err(KeyFault::NoItem(Key::End))),
+    (
+        "=ypart begin=0 end=18",
+        Err(KeyFault::BadNumber(Key::Begin)),
+    ),
+];
+
+// Trailer lines, and what they say.
+const END_LINES: [(&str, Result<EndLine, KeyFault>); 2] = [
+    (
+        "=yend size=9 part=1 pcrc32=CBF43926 crc32=1  ",
         Ok(EndLine {
             size: 9,
             part: Some(1),
             pcrc32: Some(0xcbf4_3926),
             crc32: Some(1),
-        })
-    );
-    assert_eq!(rt;
-        read_end(b"=yend size=9 crc32=123456789"),
-        Err(KeyFault::BadNumber(Key::Crc32))
-    );
+        }),
+    ),
+    (
+        "=yend size=9 crc32=123456789",
+        Err(KeyFault::BadNumber(Key::Crc32)),
+    ),
+];
+
+#[test]
+fn part_and_trailer_lines_are_read(rt: HostRuntime) {
+    for (line, wanted) in &PART_LINES {
+        assert!(rt; read_part(line.as_bytes()) == *wanted, "{line:?}");
+    }
+    for (line, wanted) in &END_LINES {
+        assert!(rt; read_end(line.as_bytes()) == *wanted, "{line:?}");
+    }
 }

@@ -3,9 +3,9 @@
 #![tactic(auto)]
 
 #[cfg(test)]
-mod accepted;
-#[cfg(test)]
 mod block_fixtures;
+#[cfg(test)]
+mod blocks;
 #[cfg(test)]
 mod bodies;
 #[cfg(test)]
@@ -14,8 +14,6 @@ mod decoding;
 mod landings;
 #[cfg(test)]
 mod reading;
-#[cfg(test)]
-mod refused;
 #[cfg(test)]
 mod spellings;
 #[cfg(test)]

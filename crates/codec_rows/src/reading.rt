@@ -3,12 +3,12 @@ use lists::Lines;
 use row_fixtures::bytes_of;
 use std::alloc::Global;
 use std::test::Fail;
-use yenc_body::{BodyError, Fault, Part, Reason, read_body, split_text};
+use yenc_body::{BodyError, Fault, Reason, read_body, split_text};
 use yenc_lines::{Key, KeyFault};
 
 // The error that the lines of a text are refused with, where they are.
-fn refusal(alloc: Global, text: &[u8]) -> Result<Option<BodyError>, Fail> {
-    let lines = split_text(alloc, text)?;
+fn refusal(alloc: Global, text: &str) -> Result<Option<BodyError>, Fail> {
+    let lines = split_text(alloc, text.as_bytes())?;
     Ok(read_body(alloc, &lines).err())
 }
 
@@ -21,107 +21,107 @@ fn at(line: u64, column: u64, reason: Reason) -> Option<BodyError> {
 }
 
 // Texts that are refused, with the line, the column and the reason.
-const REFUSED: [(&[u8], u64, u64, Reason); 19] = [
-    (b"", 1, 1, Reason::NoBegin),
-    (b"From: x\n\n", 3, 1, Reason::NoBegin),
+const REFUSED: [(&str, u64, u64, Reason); 19] = [
+    ("", 1, 1, Reason::NoBegin),
+    ("From: x\n\n", 3, 1, Reason::NoBegin),
     (
-        b"=ybegin line=128 size=9\n[\\]^_`abc\n=yend size=9 crc32=cbf43926\n",
+        "=ybegin line=128 size=9\n[\\]^_`abc\n=yend size=9 crc32=cbf43926\n",
         1,
         1,
         Reason::BadBegin(KeyFault::NoItem(Key::Name)),
     ),
     (
-        b"=ybegin line=128 size=16777217 name=d\n",
+        "=ybegin line=128 size=16777217 name=d\n",
         1,
         1,
         Reason::PartRange,
     ),
     (
-        b"=ybegin part=1 total=2 line=128 size=9 name=d\n=ypart begin=1 end=10\n",
+        "=ybegin part=1 total=2 line=128 size=9 name=d\n=ypart begin=1 end=10\n",
         2,
         1,
         Reason::PartRange,
     ),
     (
-        b"=ybegin part=1 total=2 line=128 size=9 name=d\nabc\n",
+        "=ybegin part=1 total=2 line=128 size=9 name=d\nabc\n",
         2,
         1,
         Reason::NoPart,
     ),
     (
-        b"=ybegin part=1 total=2 line=128 size=9 name=d\n",
+        "=ybegin part=1 total=2 line=128 size=9 name=d\n",
         2,
         1,
         Reason::NoPart,
     ),
     (
-        b"=ybegin part=1 total=2 line=128 size=9 name=d\n=ypart begin=0 end=9\n",
+        "=ybegin part=1 total=2 line=128 size=9 name=d\n=ypart begin=0 end=9\n",
         2,
         1,
         Reason::BadPart(KeyFault::BadNumber(Key::Begin)),
     ),
     (
-        b"=ybegin line=128 size=2 name=d\na=\ra\n=yend size=2\n",
+        "=ybegin line=128 size=2 name=d\na=\ra\n=yend size=2\n",
         2,
         3,
         Reason::Stray,
     ),
     (
-        b"=ybegin line=128 size=2 name=d\nab\n\0\n=yend size=2\n",
+        "=ybegin line=128 size=2 name=d\nab\n\0\n=yend size=2\n",
         3,
         1,
         Reason::Stray,
     ),
     (
-        b"=ybegin line=128 size=2 name=d\na=\n=yend size=2\n",
+        "=ybegin line=128 size=2 name=d\na=\n=yend size=2\n",
         2,
         2,
         Reason::LoneEscape,
     ),
     (
-        b"=ybegin line=128 size=8 name=d\n[\\]^_`abc\n=yend size=8\n",
+        "=ybegin line=128 size=8 name=d\n[\\]^_`abc\n=yend size=8\n",
         2,
         9,
         Reason::TooMany,
     ),
     (
-        b"=ybegin line=128 size=8 name=d\n[\n=yfoo\n",
+        "=ybegin line=128 size=8 name=d\n[\n=yfoo\n",
         3,
         1,
         Reason::Keyword,
     ),
     (
-        b"=ybegin line=128 size=9 name=d\n[\\]^_`abc\n",
+        "=ybegin line=128 size=9 name=d\n[\\]^_`abc\n",
         3,
         1,
         Reason::NoEnd,
     ),
     (
-        b"=ybegin line=128 size=9 name=d\n[\\]^_`abc\n=yend crc32=cbf43926\n",
+        "=ybegin line=128 size=9 name=d\n[\\]^_`abc\n=yend crc32=cbf43926\n",
         3,
         1,
         Reason::BadEnd(KeyFault::NoItem(Key::Size)),
     ),
     (
-        b"=ybegin part=1 total=1 line=128 size=9 name=d\n=ypart begin=1 end=9\n[\\]^_`abc\n=yend size=9 part=2\n",
+        "=ybegin part=1 total=1 line=128 size=9 name=d\n=ypart begin=1 end=9\n[\\]^_`abc\n=yend size=9 part=2\n",
         4,
         1,
         Reason::EndPart(2, 1),
     ),
     (
-        b"=ybegin line=128 size=9 name=d\n[\\]^_`abc\n=yend size=8\n",
+        "=ybegin line=128 size=9 name=d\n[\\]^_`abc\n=yend size=8\n",
         3,
         1,
         Reason::EndSize(8, 9),
     ),
     (
-        b"=ybegin line=128 size=10 name=d\n[\\]^_`abc\n=yend size=10\n",
+        "=ybegin line=128 size=10 name=d\n[\\]^_`abc\n=yend size=10\n",
         3,
         1,
         Reason::TooFew(9, 10),
     ),
     (
-        b"=ybegin line=128 size=9 name=d\n[\\]^_`abc\n=yend size=9 crc32=1\n",
+        "=ybegin line=128 size=9 name=d\n[\\]^_`abc\n=yend size=9 crc32=1\n",
         3,
         1,
         Reason::CrcDiffers(1, 0xcbf4_3926),
@@ -136,34 +136,38 @@ fn each_reason_has_its_line_and_column(rt: HostRuntime) -> Result<(), Fail> {
     Ok(())
 }
 
+// The lines before the end line of a part with all its bytes, and of one without the last.
+const FULL: &str =
+    "=ybegin part=1 total=2 line=128 size=18 name=d\n=ypart begin=1 end=9\n[\\]^_`abc\n";
+
+const SHORT: &str =
+    "=ybegin part=1 total=2 line=128 size=18 name=d\n=ypart begin=1 end=9\n[\\]^_`ab\n";
+
+// End lines, and the reason that is told of them.
+const ENDS: [(&str, &str, Reason); 8] = [
+    (FULL, "=yend size=8 part=2", Reason::EndPart(2, 1)),
+    (SHORT, "=yend size=9 part=2", Reason::EndPart(2, 1)),
+    (FULL, "=yend size=9 part=2 pcrc32=1", Reason::EndPart(2, 1)),
+    (SHORT, "=yend size=8 part=1", Reason::EndSize(8, 9)),
+    (FULL, "=yend size=8 part=1 pcrc32=1", Reason::EndSize(8, 9)),
+    (SHORT, "=yend size=9 part=1 pcrc32=1", Reason::TooFew(8, 9)),
+    (
+        FULL,
+        "=yend size=9 part=1 pcrc32=1 crc32=2",
+        Reason::CrcDiffers(1, 0xcbf4_3926),
+    ),
+    (
+        FULL,
+        "=yend size=9 size=9 part=2",
+        Reason::BadEnd(KeyFault::Repeated(Key::Size)),
+    ),
+];
+
 #[test]
 fn the_first_reason_of_two_on_one_place_is_told(rt: HostRuntime) -> Result<(), Fail> {
-    let front = b"=ybegin part=1 total=2 line=128 size=18 name=d\n=ypart begin=1 end=9\n";
-    let whole = b"[\\]^_`abc\n";
-    let short = b"[\\]^_`ab\n";
-    let rows: [(bool, &[u8], Reason); 8] = [
-        (true, b"=yend size=8 part=2", Reason::EndPart(2, 1)),
-        (false, b"=yend size=9 part=2", Reason::EndPart(2, 1)),
-        (true, b"=yend size=9 part=2 pcrc32=1", Reason::EndPart(2, 1)),
-        (false, b"=yend size=8 part=1", Reason::EndSize(8, 9)),
-        (true, b"=yend size=8 part=1 pcrc32=1", Reason::EndSize(8, 9)),
-        (false, b"=yend size=9 part=1 pcrc32=1", Reason::TooFew(8, 9)),
-        (
-            true,
-            b"=yend size=9 part=1 pcrc32=1 crc32=2",
-            Reason::CrcDiffers(1, 0xcbf4_3926),
-        ),
-        (
-            true,
-            b"=yend size=9 size=9 part=2",
-            Reason::BadEnd(KeyFault::Repeated(Key::Size)),
-        ),
-    ];
-    for (is_whole, end, reason) in rows {
-        let mut text = bytes_of(rt.alloc(), front)?;
-        text.extend(if is_whole { whole } else { short })?;
-        text.extend(end)?;
-        assert_eq!(rt; refusal(rt.alloc(), text.as_slice())?, at(4, 1, reason));
+    for (lines, end, reason) in ENDS {
+        let text = format!(in rt.alloc(); "{lines}{end}")?;
+        assert_eq!(rt; refusal(rt.alloc(), text.as_str())?, at(4, 1, reason));
     }
     Ok(())
 }
@@ -197,19 +201,15 @@ fn a_keyword_line_may_have_1024_bytes(rt: HostRuntime) -> Result<(), Fail> {
     Ok(())
 }
 
-// The part that the lines of a text are.
-fn part_of(alloc: Global, text: &[u8]) -> Result<Part, Fail> {
-    let lines = split_text(alloc, text)?;
-    Ok(read_body(alloc, &lines).ok().ok_or("a body")?)
-}
+const SAVED: &str =
+    "From: x\n\n=ybegin part=1 total=1 line=128 size=9 name=my file.txt\n=ypart begin=1 end=9\n[\\]^_`abc\n=yend size=9 part=1 pcrc32=CBF43926 crc32=00000000\n-- \nsigned\n";
 
 #[test]
 fn a_saved_article_is_read(rt: HostRuntime) -> Result<(), Fail> {
-    let text =
-        b"From: x\n\n=ybegin part=1 total=1 line=128 size=9 name=my file.txt\n=ypart begin=1 end=9\n[\\]^_`abc\n=yend size=9 part=1 pcrc32=CBF43926 crc32=00000000\n-- \nsigned\n";
-    let part = part_of(rt.alloc(), text)?;
-    assert_eq!(rt; part.content.as_slice(), b"123456789".as_slice());
-    assert_eq!(rt; part.begin.name.as_slice(), b"my file.txt".as_slice());
+    let lines = split_text(rt.alloc(), SAVED.as_bytes())?;
+    let part = read_body(rt.alloc(), &lines).ok().ok_or("a body")?;
+    assert!(rt; part.content.as_slice() == b"123456789".as_slice());
+    assert!(rt; part.begin.name.as_slice() == b"my file.txt".as_slice());
     assert_eq!(rt; (part.first, part.last, part.begin.size), (1, 9, 9));
     Ok(())
 }

@@ -2,16 +2,18 @@
 use crc_field::Crc;
 use std::test::Fail;
 
+// Texts and their sums.
+const SUMS: [(&str, u32); 3] = [
+    ("", 0),
+    ("123456789", 0xcbf4_3926),
+    ("The quick brown fox jumps over the lazy dog", 0x414f_a339),
+];
+
 #[test]
 fn sums_are_the_known_ones(rt: HostRuntime) {
-    let rows: [(&[u8], u32); 3] = [
-        (b"", 0),
-        (b"123456789", 0xcbf4_3926),
-        (b"The quick brown fox jumps over the lazy dog", 0x414f_a339),
-    ];
-    for (bytes, sum) in rows {
+    for (text, sum) in SUMS {
         let mut crc = Crc::new();
-        crc.update(bytes);
+        crc.update(text.as_bytes());
         assert_eq!(rt; crc.value(), sum);
     }
 }

@@ -10,6 +10,7 @@ use Rattle.command_words.specs.Servers.{ServerAsked, is_next_server, links_of, s
 use Rattle.command_words.proofs.KeysLemmas.{AreTaken, all_stand, all_taken, one_value, values_taken}
 use Rattle.command_words.proofs.PostLemmas.{there}
 use Rattle.command_words.proofs.ServersLemmas.{all_allowed, few_servers, links_fit, some_server}
+use Rattle.limits.specs.declared.TheConstants.{MOST_PATIENCE, MOST_DEPTH}
 
 -- ---- what the pairs ask for
 
@@ -64,9 +65,9 @@ login_of words (Some path) are is = leb-true 1 (length path) (values_taken fetch
 -- the numbers of `fetch` are within their limits
 pub record AreWithin (asked : FetchAsked) : Type 0 where
   pub depth_least : 1 ≤ asked.depth
-  pub depth_most : asked.depth ≤ 32
+  pub depth_most : asked.depth ≤ MOST_DEPTH
   pub patience_least : 1 ≤ asked.patience
-  pub patience_most : asked.patience ≤ 100000
+  pub patience_most : asked.patience ≤ MOST_PATIENCE
 
 allowed_of : (words : List (List ℕ)) → pairs_of fetch_keys 2 [] words ≡ Ok (paired words) → has_all fetch_required (paired words) ≡ true → AreWithin (fetch_asked (paired words))
     → IsFetchAllowed (fetch_asked (paired words))

@@ -14,6 +14,7 @@ use Rattle.command_words.specs.Keys.{Key, has_all, pairs_of, patience_of, text_o
 use Rattle.command_words.specs.declared.keys.Rule.TheVariants.{First, Group, Last, Number, Path, Server}
 use Rattle.command_words.proofs.KeysLemmas.{values_taken}
 use Rattle.command_words.proofs.PostLemmas.{there}
+use Rattle.limits.specs.declared.TheConstants.{MOST_ARTICLE, MOST_PATIENCE}
 
 -- ---- the number before another key
 
@@ -43,7 +44,7 @@ table last first =
     ∷ key_by (codes "--group") Group
     ∷ key_by (codes "--first") (First last)
     ∷ key_by (codes "--last") (Last first)
-    ∷ key_by (codes "--patience") (Number 1 100000)
+    ∷ key_by (codes "--patience") (Number 1 MOST_PATIENCE)
     ∷ key_by (codes "--login") Path ∷ []
 
 pub same_keys : (words : List (List ℕ)) (last first : Option ℕ) → last ≡ number_before (codes "--last") (codes "--first") words
@@ -158,9 +159,9 @@ login_of words (Some path) are is = leb-true 1 (length path) (values_taken (inde
 -- the numbers of `index` are within their limits
 pub record AreWithin (asked : IndexAsked) : Type 0 where
   pub first_least : 1 ≤ asked.first
-  pub last_most : asked.last ≤ 9999999999999999
+  pub last_most : asked.last ≤ MOST_ARTICLE
   pub patience_least : 1 ≤ asked.patience
-  pub patience_most : asked.patience ≤ 100000
+  pub patience_most : asked.patience ≤ MOST_PATIENCE
 
 allowed_of : (words : List (List ℕ)) → pairs_of (index_keys words) 2 [] words ≡ Ok (paired words) → AreThere (paired words) → AreWithin (index_asked (paired words))
     → IsIndexAllowed (index_asked (paired words))

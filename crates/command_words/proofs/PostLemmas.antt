@@ -12,7 +12,7 @@ use Rattle.command_words.specs.Keys.{Key, file_name, has_all, is_header_name, is
 use Rattle.command_words.specs.Post.{IsPostAllowed, PostAsked, post_asked, post_keys, post_of, post_of_pairs, post_required}
 use Rattle.command_words.proofs.KeysLemmas.{stands_with_value, values_taken}
 use Rattle.command_words.proofs.PostLaws.{domain_from_test, newsgroups_from_test, text_from_test}
-use Rattle.limits.specs.declared.TheConstants.{MOST_PART_BYTES}
+use Rattle.limits.specs.declared.TheConstants.{LEAST_LINE, MOST_ID_BYTES, MOST_LINE, MOST_PART_BYTES, MOST_PATIENCE}
 
 -- ---- what the pairs ask for
 
@@ -120,12 +120,12 @@ comment_of words named (Some value) are is = text_from_test 0 200 value (values_
 
 -- the numbers of `post` are within their limits
 pub record AreWithin (asked : PostAsked) : Type 0 where
-  pub line_least : 64 ≤ asked.line
-  pub line_most : asked.line ≤ 997
+  pub line_least : LEAST_LINE ≤ asked.line
+  pub line_most : asked.line ≤ MOST_LINE
   pub part_size_least : 1 ≤ asked.part_size
   pub part_size_most : asked.part_size ≤ MOST_PART_BYTES
   pub patience_least : 1 ≤ asked.patience
-  pub patience_most : asked.patience ≤ 100000
+  pub patience_most : asked.patience ≤ MOST_PATIENCE
 
 allowed_of : (words : List (List ℕ)) (named : Bool) → pairs_of (post_keys named) 2 [] words ≡ Ok (paired words) → AreThere (paired words) → is_header_name (post_asked (paired words)).name ≡ true → AreWithin (post_asked (paired words))
     → IsPostAllowed (post_asked (paired words))
@@ -135,7 +135,7 @@ allowed_of words named are all name within =
       server = server_from_test (text_of (codes "--server") (paired words)) (there keys words (codes "--server") (value_of (codes "--server") (paired words)) are refl all.server);
       from = text_from_test 1 200 (text_of (codes "--from") (paired words)) (there keys words (codes "--from") (value_of (codes "--from") (paired words)) are refl all.from);
       newsgroups = newsgroups_from_test (text_of (codes "--group") (paired words)) (there keys words (codes "--group") (value_of (codes "--group") (paired words)) are refl all.newsgroups);
-      token = word_from_test is_token_byte 64 (text_of (codes "--token") (paired words)) (there keys words (codes "--token") (value_of (codes "--token") (paired words)) are refl all.token);
+      token = word_from_test is_token_byte MOST_ID_BYTES (text_of (codes "--token") (paired words)) (there keys words (codes "--token") (value_of (codes "--token") (paired words)) are refl all.token);
       domain = domain_from_test (text_of (codes "--domain") (paired words)) (there keys words (codes "--domain") (value_of (codes "--domain") (paired words)) are refl all.domain);
       name = file_name_of_header (post_asked (paired words)).name name;
       comment = comment_of words named (value_of (codes "--comment") (paired words)) are refl;

@@ -15,6 +15,7 @@ use Rattle.command_words.specs.Keys.{has_leading_zero, number_in}
 use Rattle.command_words.specs.Servers.{IsServerAllowed, ServerAsked, has_room, is_next_server, links_of, marked_of, marked_of_cut, server_at, server_found, server_of, servers_of}
 use Rattle.command_words.specs.declared.servers.ServerWords.{ServerWords}
 use Rattle.command_words.proofs.KeysLemmas.{AreTaken}
+use Rattle.limits.specs.declared.TheConstants.{MOST_SERVERS, MOST_LINKS, MOST_LEVEL}
 
 -- ---- lists of servers
 
@@ -39,25 +40,25 @@ links_found servers = links_from 0 servers
 
 -- ---- a list in an array
 
-pub push_room : (all : List ServerWords) (len : ℕ) (now : List ServerAsked) → map server_found (take len all) ≡ now → length all ≡ 16 → length now < 16 → len < 16
+pub push_room : (all : List ServerWords) (len : ℕ) (now : List ServerAsked) → map server_found (take len all) ≡ now → length all ≡ MOST_SERVERS → length now < MOST_SERVERS → len < MOST_SERVERS
 push_room all len now is long few =
     let same = ap (λ (l : List ServerAsked). length l) (sym is) ∙ length-map (take len all) server_found ∙ length-take len all in
     omega (arith, same, long, few)
 
-pub pushed : (all : List ServerWords) (len : ℕ) (now : List ServerAsked) (server : ServerWords) → map server_found (take len all) ≡ now → length all ≡ 16 → len < 16
+pub pushed : (all : List ServerWords) (len : ℕ) (now : List ServerAsked) (server : ServerWords) → map server_found (take len all) ≡ now → length all ≡ MOST_SERVERS → len < MOST_SERVERS
     → map server_found (take (len + 1) (slice_set all len server)) ≡ now ++ server_found server ∷ []
 pushed all len now server is long room =
     ap (map server_found) (take_more_set all len server (omega (arith, long, room)))
     ∙ map-append server_found (take len all) (server ∷ []) ∙ ap (λ l. l ++ server_found server ∷ []) is
 
-pub pushed_length : (all : List ServerWords) (len : ℕ) (server : ServerWords) → length all ≡ 16 → length (slice_set all len server) ≡ 16
+pub pushed_length : (all : List ServerWords) (len : ℕ) (server : ServerWords) → length all ≡ MOST_SERVERS → length (slice_set all len server) ≡ MOST_SERVERS
 pushed_length all len server long = length-set all len server ∙ long
 
 -- ---- one more value
 
 -- a list of servers before some values, and one behind the first of them
 pub one_server_more : (servers new : List ServerAsked) (values total rest : List (List ℕ)) (value given : List ℕ) → new ≡ servers ++ servers_of (given ∷ []) → value ≡ given → values ≡ value ∷ rest
-    → length servers + length values ≤ 16 → servers ++ servers_of values ≡ servers_of total → (length new + length rest ≤ 16) × (new ++ servers_of rest ≡ servers_of total)
+    → length servers + length values ≤ MOST_SERVERS → servers ++ servers_of values ≡ servers_of total → (length new + length rest ≤ MOST_SERVERS) × (new ++ servers_of rest ≡ servers_of total)
 one_server_more servers new values total rest value given new_is value_is values_are room same =
     let new_length = ap (λ (l : List ServerAsked). length l) new_is ∙ length-append servers (servers_of (given ∷ [])) in
     let values_length = ap (λ (l : List (List ℕ)). length l) values_are in
@@ -67,7 +68,7 @@ one_server_more servers new values total rest value given new_is value_is values
     )
 
 pub same_servers : (servers new : List ServerAsked) (values total rest : List (List ℕ)) → new ≡ servers → values ≡ rest
-    → length servers + length values ≤ 16 → servers ++ servers_of values ≡ servers_of total → (length new + length rest ≤ 16) × (new ++ servers_of rest ≡ servers_of total)
+    → length servers + length values ≤ MOST_SERVERS → servers ++ servers_of values ≡ servers_of total → (length new + length rest ≤ MOST_SERVERS) × (new ++ servers_of rest ≡ servers_of total)
 same_servers servers new values total rest new_is values_are room same =
     let new_length = ap (λ (l : List ServerAsked). length l) new_is in
     let values_length = ap (λ (l : List (List ℕ)). length l) values_are in (
@@ -99,22 +100,22 @@ marked_within mark least most default text low high = by_cut (cut_at mark text)
     by_cut None = (low, high)
     by_cut (Some cut) = mapped cut.0 (number_in least most cut.1) (number_within least most cut.1)
 
-allowed_at : (level : ℕ) (linked : List ℕ × ℕ) → level ≤ 9 → 1 ≤ linked.1 → linked.1 ≤ 64 → IfSome (server_at level linked) IsServerAllowed
+allowed_at : (level : ℕ) (linked : List ℕ × ℕ) → level ≤ MOST_LEVEL → 1 ≤ linked.1 → linked.1 ≤ MOST_LINKS → IfSome (server_at level linked) IsServerAllowed
 allowed_at level linked top least most =
     cond_both (is_server linked.0) (Some (record { address = linked.0; links = linked.1; level = level })) None (λ o. IfSome o IsServerAllowed)
     (λ is. record { address = server_from_test linked.0 is; links_least = least; links_most = most; level = top })
     (λ is. tt)
 
-by_links : (level : ℕ) → level ≤ 9 → (linked : Option (List ℕ × ℕ)) → IfSome linked (λ m. (1 ≤ m.1) × (m.1 ≤ 64)) → IfSome (option_and_then (server_at level) linked) IsServerAllowed
+by_links : (level : ℕ) → level ≤ MOST_LEVEL → (linked : Option (List ℕ × ℕ)) → IfSome linked (λ m. (1 ≤ m.1) × (m.1 ≤ MOST_LINKS)) → IfSome (option_and_then (server_at level) linked) IsServerAllowed
 by_links level top None limits = tt
 by_links level top (Some linked) limits = allowed_at level linked top limits.0 limits.1
 
-by_level : (leveled : Option (List ℕ × ℕ)) → IfSome leveled (λ m. (0 ≤ m.1) × (m.1 ≤ 9)) → IfSome (option_and_then (λ (m : List ℕ × ℕ). option_and_then (server_at m.1) (marked_of 42 1 64 1 m.0)) leveled) IsServerAllowed
+by_level : (leveled : Option (List ℕ × ℕ)) → IfSome leveled (λ m. (0 ≤ m.1) × (m.1 ≤ MOST_LEVEL)) → IfSome (option_and_then (λ (m : List ℕ × ℕ). option_and_then (server_at m.1) (marked_of 42 1 MOST_LINKS 1 m.0)) leveled) IsServerAllowed
 by_level None limits = tt
-by_level (Some leveled) limits = by_links leveled.1 limits.1 (marked_of 42 1 64 1 leveled.0) (marked_within 42 1 64 1 leveled.0 (omega arith) (omega arith))
+by_level (Some leveled) limits = by_links leveled.1 limits.1 (marked_of 42 1 MOST_LINKS 1 leveled.0) (marked_within 42 1 MOST_LINKS 1 leveled.0 (omega arith) (omega arith))
 
 server_allowed : (value : List ℕ) → IfSome (server_of value) IsServerAllowed
-server_allowed value = by_level (marked_of 64 0 9 0 value) (marked_within 64 0 9 0 value (omega arith) (omega arith))
+server_allowed value = by_level (marked_of 64 0 MOST_LEVEL 0 value) (marked_within 64 0 MOST_LEVEL 0 value (omega arith) (omega arith))
 
 put_allowed : (server : Option ServerAsked) (servers : List ServerAsked) → IfSome server IsServerAllowed → All IsServerAllowed servers → All IsServerAllowed (cons_option server servers)
 put_allowed None servers one all = all

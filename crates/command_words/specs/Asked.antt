@@ -17,13 +17,13 @@ use Rattle.command_words.specs.declared.words.Command.TheVariants as given
 use Rattle.command_words.specs.declared.words.CheckWords.{CheckWords}
 use Rattle.command_words.specs.declared.words.DecodeWords.{DecodeWords}
 use Rattle.command_words.specs.declared.words.EncodeWords.{EncodeWords}
-use Rattle.limits.specs.declared.TheConstants.{MOST_PART_BYTES}
+use Rattle.limits.specs.declared.TheConstants.{LEAST_LINE, MOST_LINE, MOST_PART_BYTES, MOST_SERVERS}
 
 -- ---- keys in a table
 
 -- how often a key of a rule may stand
 abbrev pub most_times : Rule → ℕ
-most_times FetchServer = 16
+most_times FetchServer = MOST_SERVERS
 most_times _ = 1
 
 -- the values that a rule takes, beside those that the key has so far
@@ -89,8 +89,8 @@ body_asked asked = record { path = asked.path.now; form = asked.form }
 
 -- the numbers of `encode` are within their limits
 pub record IsEncodeAllowed (asked : EncodeWords) : Type 0 where
-  pub line_least : 64 ≤ asked.line
-  pub line_most : asked.line ≤ 997
+  pub line_least : LEAST_LINE ≤ asked.line
+  pub line_most : asked.line ≤ MOST_LINE
   pub part_size_least : 1 ≤ asked.part_size
   pub part_size_most : asked.part_size ≤ MOST_PART_BYTES
   pub part_least : 1 ≤ asked.part

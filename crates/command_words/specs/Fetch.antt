@@ -4,6 +4,7 @@ use Rattle.std.specs.Option.{option_and_then, option_copied, unwrap_or}
 use Rattle.command_words.specs.Keys.{Key, has_all, is_path, number_in, once, pairs_of, patience_of, text_of, value_of, values_of}
 use Rattle.command_words.specs.Servers.{IsServerAllowed, ServerAsked, is_next_server, links_of, servers_of}
 use Rattle.command_words.specs.declared.fetch.FetchWords.{FetchWords}
+use Rattle.limits.specs.declared.TheConstants.{MOST_PATIENCE, MOST_SERVERS, MOST_LINKS, MOST_DEPTH}
 
 -- Files that are to be fetched: the path of the NZB text that lists them, the news servers in the order of the words, how many
 -- requests a link may have without an answer, after how many receives that got nothing a link is given up, and the path of the
@@ -17,13 +18,13 @@ pub record FetchAsked : Type 0 where
 
 -- how many requests a link may have without an answer
 abbrev pub depth_of : List ℕ → Option ℕ
-depth_of = number_in 1 32
+depth_of = number_in 1 MOST_DEPTH
 
 -- The keys of `fetch`. It is the one command that takes a key more than once: each server has its own.
 abbrev pub fetch_keys : List Key
 fetch_keys =
     once (codes "--nzb") is_path
-    ∷ record { word = codes "--server"; most = 16; takes = is_next_server }
+    ∷ record { word = codes "--server"; most = MOST_SERVERS; takes = is_next_server }
     ∷ once (codes "--depth") (λ value. is_some (depth_of value))
     ∷ once (codes "--patience") (λ value. is_some (patience_of value))
     ∷ once (codes "--login") is_path ∷ []
@@ -73,11 +74,11 @@ ReadsFetch asked (Err number) = asked ≡ Err number
 pub record IsFetchAllowed (asked : FetchAsked) : Type 0 where
   pub path : 1 ≤ length asked.path
   pub some : 1 ≤ length asked.servers
-  pub few : length asked.servers ≤ 16
+  pub few : length asked.servers ≤ MOST_SERVERS
   pub servers : All IsServerAllowed asked.servers
-  pub links : links_of asked.servers ≤ 64
+  pub links : links_of asked.servers ≤ MOST_LINKS
   pub depth_least : 1 ≤ asked.depth
-  pub depth_most : asked.depth ≤ 32
+  pub depth_most : asked.depth ≤ MOST_DEPTH
   pub patience_least : 1 ≤ asked.patience
-  pub patience_most : asked.patience ≤ 100000
+  pub patience_most : asked.patience ≤ MOST_PATIENCE
   pub login : IfSome asked.login (λ path. 1 ≤ length path)

@@ -7,6 +7,7 @@ use Rattle.server_logins.specs.Server.{IsServer, is_server}
 use Rattle.nntp_lines.specs.GroupName.{IsGroupName, is_group_byte}
 use Rattle.command_words.specs.Keys.{Key, has_all, is_path, number_in, once, pairs_of, patience_of, text_of, value_of}
 use Rattle.command_words.specs.declared.index.IndexWords.{IndexWords}
+use Rattle.limits.specs.declared.TheConstants.{MOST_ARTICLE, MOST_PATIENCE}
 
 -- Articles of a newsgroup that are to be indexed: the news server's address, the newsgroup, the numbers of the first and of the
 -- last one, after how many receives that got nothing the server is given up, and the path of the login file.
@@ -26,7 +27,7 @@ is_group value = is_word is_group_byte 200 value
 
 -- the number of an article
 abbrev pub article_of : List ℕ → Option ℕ
-article_of = number_in 1 9999999999999999
+article_of = number_in 1 MOST_ARTICLE
 
 -- from a number to one that isn't below it, at most 10,000,000 numbers
 abbrev pub is_range : ℕ → ℕ → Bool
@@ -113,8 +114,8 @@ pub record IsIndexAllowed (asked : IndexAsked) : Type 0 where
   pub group : IsGroupName asked.group
   pub first_least : 1 ≤ asked.first
   pub last_least : asked.first ≤ asked.last
-  pub last_most : asked.last ≤ 9999999999999999
+  pub last_most : asked.last ≤ MOST_ARTICLE
   pub few : asked.last - asked.first ≤ 9999999
   pub patience_least : 1 ≤ asked.patience
-  pub patience_most : asked.patience ≤ 100000
+  pub patience_most : asked.patience ≤ MOST_PATIENCE
   pub login : IfSome asked.login (λ path. 1 ≤ length path)

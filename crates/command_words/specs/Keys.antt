@@ -6,7 +6,7 @@ use Rattle.std.specs.Option.{unwrap_or}
 use Rattle.numbers.specs.Numbers.{decimal_of, within}
 use Rattle.command_words.specs.declared.keys.Form.{Form}
 use Rattle.command_words.specs.declared.keys.Form.TheVariants.{File, Wire}
-use Rattle.limits.specs.declared.TheConstants.{MOST_PART_BYTES}
+use Rattle.limits.specs.declared.TheConstants.{LEAST_LINE, MOST_LINE, MOST_PART_BYTES, MOST_PATIENCE}
 
 -- ---- what a value has to be
 
@@ -47,7 +47,7 @@ number_in least most value = if has_leading_zero value then None else within lea
 
 -- how many characters a data line may have before it is full
 abbrev pub line_of : List ℕ → Option ℕ
-line_of = number_in 64 997
+line_of = number_in LEAST_LINE MOST_LINE
 
 -- how many bytes a part may have
 abbrev pub part_size_of : List ℕ → Option ℕ
@@ -55,7 +55,7 @@ part_size_of = number_in 1 MOST_PART_BYTES
 
 -- after how many receives that got nothing a server may be given up
 abbrev pub patience_of : List ℕ → Option ℕ
-patience_of = number_in 1 100000
+patience_of = number_in 1 MOST_PATIENCE
 
 -- how a body was saved: as the lines of a file, or as a reply off the wire
 abbrev pub form_of : List ℕ → Option Form

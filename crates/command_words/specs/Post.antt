@@ -7,7 +7,7 @@ use Rattle.server_logins.specs.Server.{IsServer, is_server}
 use Rattle.command_words.specs.Keys.{Key, file_name, has_all, is_header_name, is_named_path, is_path, line_of, once, pairs_of, part_size_of, patience_of, stands_as_key, text_of, value_of}
 use Rattle.command_words.specs.PostValues.{is_comment, is_domain, is_from, is_newsgroups, is_token}
 use Rattle.command_words.specs.declared.post.PostWords.{PostWords}
-use Rattle.limits.specs.declared.TheConstants.{MOST_PART_BYTES}
+use Rattle.limits.specs.declared.TheConstants.{LEAST_LINE, MOST_LINE, MOST_PART_BYTES, MOST_PATIENCE}
 
 -- A file that is to be posted: its path, the news server's address, who posts, the newsgroups, the token and the domain of the
 -- message-ids, the file's name, what the subject begins with, how many characters a data line has before it is full, how many
@@ -106,9 +106,9 @@ pub record IsPostAllowed (asked : PostAsked) : Type 0 where
   pub domain : IsDomain asked.domain
   pub name : IsFileName asked.name
   pub comment : IsComment asked.comment
-  pub line_least : 64 ≤ asked.line
-  pub line_most : asked.line ≤ 997
+  pub line_least : LEAST_LINE ≤ asked.line
+  pub line_most : asked.line ≤ MOST_LINE
   pub part_size_least : 1 ≤ asked.part_size
   pub part_size_most : asked.part_size ≤ MOST_PART_BYTES
   pub patience_least : 1 ≤ asked.patience
-  pub patience_most : asked.patience ≤ 100000
+  pub patience_most : asked.patience ≤ MOST_PATIENCE

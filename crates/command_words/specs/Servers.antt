@@ -7,6 +7,7 @@ use Rattle.server_logins.specs.Server.{IsServer, is_server}
 use Rattle.command_words.specs.Keys.{number_in}
 use Rattle.command_words.specs.declared.servers.Marked.{Marked}
 use Rattle.command_words.specs.declared.servers.ServerWords.{ServerWords}
+use Rattle.limits.specs.declared.TheConstants.{MOST_LINKS, MOST_LEVEL}
 
 -- a news server: its address, how many links, and the level
 pub record ServerAsked : Type 0 where
@@ -25,8 +26,8 @@ pub record IsServerWord (value : List ℕ) (server : ServerAsked) : Type 0 where
   pub level_text : List ℕ
   pub whole : value ≡ server.address ++ links_text ++ level_text
   pub address : IsServer server.address
-  pub links : SaysNumber 42 1 64 1 links_text server.links
-  pub level : SaysNumber 64 0 9 0 level_text server.level
+  pub links : SaysNumber 42 1 MOST_LINKS 1 links_text server.links
+  pub level : SaysNumber 64 0 MOST_LEVEL 0 level_text server.level
 
 -- ---- as it is read
 
@@ -43,7 +44,7 @@ server_at level linked = if is_server linked.0 then Some (record { address = lin
 
 -- the server that a value names
 abbrev pub server_of : List ℕ → Option ServerAsked
-server_of value = option_and_then (λ leveled. option_and_then (server_at leveled.1) (marked_of 42 1 64 1 leveled.0)) (marked_of 64 0 9 0 value)
+server_of value = option_and_then (λ leveled. option_and_then (server_at leveled.1) (marked_of 42 1 MOST_LINKS 1 leveled.0)) (marked_of 64 0 MOST_LEVEL 0 value)
 
 -- the servers that some values name
 abbrev pub servers_of : List (List ℕ) → List ServerAsked
@@ -55,9 +56,9 @@ links_of servers = sum_by (λ server. server.links) servers
 
 abbrev pub has_room : ℕ → Option ServerAsked → Bool
 has_room links None = false
-has_room links (Some server) = nat_le (links + server.links) 64
+has_room links (Some server) = nat_le (links + server.links) MOST_LINKS
 
--- whether a value names a server whose links are at most 64 with those of the servers before it
+-- whether a value names a server whose links are at most `MOST_LINKS` with those of the servers before it
 abbrev pub is_next_server : List (List ℕ) → List ℕ → Bool
 is_next_server before value = has_room (links_of (servers_of before)) (server_of value)
 
@@ -75,8 +76,8 @@ marked_model marked = (marked.front.now, marked.number)
 pub record IsServerAllowed (server : ServerAsked) : Type 0 where
   pub address : IsServer server.address
   pub links_least : 1 ≤ server.links
-  pub links_most : server.links ≤ 64
-  pub level : server.level ≤ 9
+  pub links_most : server.links ≤ MOST_LINKS
+  pub level : server.level ≤ MOST_LEVEL
 
 -- a value names a server exactly where it is one's word
 abbrev pub ServerWordsAreRead : Type 0

@@ -5,11 +5,10 @@ ghost use Rattle.command_words.specs.Fetch.{IsFetchAllowed, ReadsFetch, fetch_fo
 
 use crate::keys::{Key, Rule, check_pairs, has_all, number_or, text_of, value_in};
 use crate::servers::{Servers, servers_in};
-use crate::words::{MOST_PATIENCE, PATIENCE};
+use crate::words::{PATIENCE, PATIENCE_RULE};
+use limits::{MOST_DEPTH, MOST_PATIENCE};
 
-// How many requests a link may have without an answer, at most and where the words don't say it.
-const MOST_DEPTH: u64 = 32;
-
+// How many requests a link may have without an answer where the words don't say it.
 const DEPTH: u64 = 8;
 
 const REQUIRED: [&str; 2] = ["--nzb", "--server"];
@@ -19,11 +18,11 @@ const REQUIRED: [&str; 2] = ["--nzb", "--server"];
 pub struct FetchWords<'a> {
     /// The path of the NZB text.
     pub path: &'a str,
-    /// The news servers, 1 to 16, with at most 64 links together.
+    /// The news servers, 1 to `MOST_SERVERS`, with at most `MOST_LINKS` links together.
     pub servers: Servers<'a>,
-    /// How many requests a link may have without an answer, 1 to 32.
+    /// How many requests a link may have without an answer, 1 to `MOST_DEPTH`.
     pub depth: u32,
-    /// After how many receives that got nothing a link is given up, 1 to 100,000.
+    /// After how many receives that got nothing a link is given up, 1 to `MOST_PATIENCE`.
     pub patience: u32,
     /// The path of the login file, if there is one.
     pub login: Option<&'a str>,
@@ -46,15 +45,12 @@ fn fetch_keys() -> [Key; 5]
             word: "--depth",
             rule: Rule::Number {
                 least: 1,
-                most: MOST_DEPTH,
+                most: MOST_DEPTH as u64,
             },
         },
         Key {
             word: "--patience",
-            rule: Rule::Number {
-                least: 1,
-                most: MOST_PATIENCE,
-            },
+            rule: PATIENCE_RULE,
         },
         Key {
             word: "--login",
@@ -64,8 +60,8 @@ fn fetch_keys() -> [Key; 5]
 }
 
 /// What the words behind `fetch` ask for. The error is the number of the first word that is refused, where that behind the
-/// command is the second; where a required key is missing, it is the number behind the last word. A 17th server is a
-/// repeated key, and a server is refused with whose links there are more than 64.
+/// command is the second; where a required key is missing, it is the number behind the last word. One server more than
+/// `MOST_SERVERS` is a repeated key, and a server is refused with whose links there are more than `MOST_LINKS`.
 pub fn read_fetch(words: &[String]) -> Result<FetchWords<'_>, u64>
     ensures words { ReadsFetch (fetch_of (map string_bytes words.now)) result }
     ensures allowed { IfOk result (λ asked. IsFetchAllowed (fetch_found asked)) }
@@ -80,8 +76,8 @@ pub fn read_fetch(words: &[String]) -> Result<FetchWords<'_>, u64>
     Ok(FetchWords {
         path: text_of(words, "--nzb"),
         servers: servers_in(words, "--server"),
-        depth: number_or(words, "--depth", 1, MOST_DEPTH, DEPTH) as u32,
-        patience: number_or(words, "--patience", 1, MOST_PATIENCE, PATIENCE) as u32,
+        depth: number_or(words, "--depth", 1, MOST_DEPTH as u64, DEPTH) as u32,
+        patience: number_or(words, "--patience", 1, MOST_PATIENCE as u64, PATIENCE) as u32,
         login: value_in(words, "--login"),
     })
 }

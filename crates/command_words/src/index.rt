@@ -5,11 +5,9 @@ ghost use Rattle.command_words.specs.Index.{IsIndexAllowed, ReadsIndex, article_
 ghost use Rattle.command_words.specs.Keys.{text_of};
 
 use crate::keys::{Key, Rule, bytes_of, check_pairs, has_all, number_in, number_or, value_in};
-use crate::words::{MOST_PATIENCE, PATIENCE};
+use crate::words::{PATIENCE, PATIENCE_RULE};
+use limits::{MOST_ARTICLE, MOST_PATIENCE};
 use nntp_lines::GroupName;
-
-// The greatest number of an article (RFC 3977, 9.8).
-const MOST_ARTICLE: u64 = 9_999_999_999_999_999;
 
 // How far above the first article the last one is.
 const MOST_DISTANCE: u64 = 9_999_999;
@@ -25,7 +23,7 @@ pub struct IndexWords<'a> {
     pub group: GroupName,
     /// The number of the first article, from 1.
     pub first: u64,
-    /// The number of the last one, up to 9,999,999,999,999,999. It is at least the first, and at most 9,999,999 above it.
+    /// The number of the last one, up to `MOST_ARTICLE`. It is at least the first, and at most 9,999,999 above it.
     pub last: u64,
     /// After how many receives that got nothing the server is given up, 1 to 100,000.
     pub patience: u32,
@@ -60,10 +58,7 @@ fn index_keys(words: &[String]) -> [Key; 6]
         },
         Key {
             word: "--patience",
-            rule: Rule::Number {
-                least: 1,
-                most: MOST_PATIENCE,
-            },
+            rule: PATIENCE_RULE,
         },
         Key {
             word: "--login",
@@ -90,7 +85,7 @@ pub fn read_index(words: &[String]) -> Result<IndexWords<'_>, u64>
         group: group_of(bytes_of(words, "--group")),
         first: number_or(words, "--first", 1, MOST_ARTICLE, 1),
         last: number_or(words, "--last", 1, MOST_ARTICLE, 1),
-        patience: number_or(words, "--patience", 1, MOST_PATIENCE, PATIENCE) as u32,
+        patience: number_or(words, "--patience", 1, MOST_PATIENCE as u64, PATIENCE) as u32,
         login: value_in(words, "--login"),
     })
 }

@@ -5,10 +5,12 @@ ghost use Rattle.std.specs.List.{list_all};
 ghost use Rattle.command_words.specs.Keys.{file_name as file_name_of, form_of, has_all, has_leading_zero, is_header_name, is_printable, key_of, number_in, stands_as_key, text_of, value_of, values_of};
 ghost use Rattle.command_words.specs.declared.keys.Form.TheVariants.{File};
 ghost use Rattle.command_words.specs.Asked.{key_model, most_times, paired, takes_by, ChecksPair, ChecksPairs};
+ghost use Rattle.limits.specs.declared.TheConstants.{MOST_SERVERS};
 
 use crate::index::{is_first, is_last};
-use crate::servers::{MOST_SERVERS, is_next_server};
+use crate::servers::is_next_server;
 use article_head::{is_comment, is_domain, is_from, is_newsgroups, is_token};
+use limits::MOST_SERVERS;
 use nntp_lines::GroupName;
 use numbers::read_dec;
 use server_logins::is_server;
@@ -28,8 +30,8 @@ pub(crate) enum Rule {
     Form,
     /// Where a news server is: `HOST:PORT`.
     Server,
-    /// A news server that a fetch asks: `HOST:PORT`, then `*` and how many links, then `@` and its level. It may stand 16
-    /// times, with at most 64 links together.
+    /// A news server that a fetch asks: `HOST:PORT`, then `*` and how many links, then `@` and its level. It may stand `MOST_SERVERS`
+    /// times, with at most `MOST_LINKS` links together.
     FetchServer,
     /// Who posts an article.
     From,
@@ -120,7 +122,7 @@ fn find_key(keys: &[Key], word: &str) -> Option<Key>
 // How often a key of a rule may stand.
 fn most_times(rule: Rule) -> usize
     ensures times { result ≡ most_times rule }
-    ensures most { result ≤ 16 }
+    ensures most { result ≤ MOST_SERVERS }
 {
     match rule {
         Rule::FetchServer => MOST_SERVERS,
@@ -131,7 +133,7 @@ fn most_times(rule: Rule) -> usize
 // Whether a value keeps to the rule of a key, beside the values that the key has in the words before it.
 #[tactic(auto, using(crate::proofs::PostLaws::same_from, crate::proofs::PostLaws::same_comment, crate::proofs::PostLaws::same_token))]
 fn takes(rule: Rule, before: &[String], key: &str, value: &str) -> bool
-    requires { length (values_of key.now (paired (map string_bytes before.now))) ≤ 16 }
+    requires { length (values_of key.now (paired (map string_bytes before.now))) ≤ MOST_SERVERS }
     ensures { result ≡ takes_by rule (values_of key.now (paired (map string_bytes before.now))) value.now }
 {
     let bytes = value.as_bytes();

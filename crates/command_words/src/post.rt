@@ -6,8 +6,10 @@ ghost use Rattle.command_words.specs.Post.{IsPostAllowed, ReadsPost, post_found,
 use crate::keys::{
     Key, Rule, bytes_of, check_pairs, has_all, has_key, number_or, text_of, value_in,
 };
-use crate::words::{LEAST_LINE, MOST_LINE, MOST_PATIENCE, PATIENCE, header_name, path_rule};
-use limits::MOST_PART_BYTES;
+use crate::words::{
+    LINE, LINE_RULE, PART_SIZE_RULE, PATIENCE, PATIENCE_RULE, header_name, path_rule,
+};
+use limits::{LEAST_LINE, MOST_LINE, MOST_PART_BYTES, MOST_PATIENCE};
 use yenc_lines::Name;
 
 // How many bytes a part has where the words don't say it.
@@ -28,16 +30,16 @@ pub struct PostWords<'a> {
     pub from: &'a [u8],
     /// Where to: 1 to 10 names of newsgroups with commas between them, at most 600 bytes (RFC 5536, 3.1.4).
     pub newsgroups: &'a [u8],
-    /// What the message-ids of the file begin with: 1 to 64 letters, digits, dashes and underscores.
+    /// What the message-ids of the file begin with: 1 to `MOST_ID_BYTES` letters, digits, dashes and underscores.
     pub token: &'a [u8],
-    /// The domain in the message-ids: at most 64 bytes.
+    /// The domain in the message-ids: at most `MOST_ID_BYTES` bytes.
     pub domain: &'a [u8],
     /// The name of the file in the header and in the subject: 1 to 255 printable ASCII characters, with no space at either
     /// end.
     pub name: Name,
     /// What the subject begins with: 0 to 200 printable ASCII characters, with no space at either end.
     pub comment: &'a [u8],
-    /// How many characters a data line has before it is full, 64 to 997.
+    /// How many characters a data line has before it is full, `LEAST_LINE` to `MOST_LINE`.
     pub line: u16,
     /// How many bytes the parts have, 1 to 16,777,216; the last one may have fewer.
     pub part_size: u32,
@@ -86,24 +88,15 @@ fn post_keys(is_named: bool) -> [Key; 12]
         },
         Key {
             word: "--line",
-            rule: Rule::Number {
-                least: LEAST_LINE,
-                most: MOST_LINE,
-            },
+            rule: LINE_RULE,
         },
         Key {
             word: "--part-size",
-            rule: Rule::Number {
-                least: 1,
-                most: MOST_PART_BYTES as u64,
-            },
+            rule: PART_SIZE_RULE,
         },
         Key {
             word: "--patience",
-            rule: Rule::Number {
-                least: 1,
-                most: MOST_PATIENCE,
-            },
+            rule: PATIENCE_RULE,
         },
         Key {
             word: "--login",
@@ -135,9 +128,9 @@ pub fn read_post(words: &[String]) -> Result<PostWords<'_>, u64>
         domain: bytes_of(words, "--domain"),
         name: header_name(words, path),
         comment: bytes_of(words, "--comment"),
-        line: number_or(words, "--line", LEAST_LINE, MOST_LINE, 128) as u16,
+        line: number_or(words, "--line", LEAST_LINE as u64, MOST_LINE as u64, LINE) as u16,
         part_size: number_or(words, "--part-size", 1, MOST_PART_BYTES as u64, PART_SIZE) as u32,
-        patience: number_or(words, "--patience", 1, MOST_PATIENCE, PATIENCE) as u32,
+        patience: number_or(words, "--patience", 1, MOST_PATIENCE as u64, PATIENCE) as u32,
         login: value_in(words, "--login"),
     })
 }

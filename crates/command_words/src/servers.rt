@@ -4,31 +4,25 @@ ghost use Rattle.std.specs.Option.{option_map};
 ghost use Rattle.command_words.specs.Asked.{paired};
 ghost use Rattle.command_words.specs.Keys.{values_of};
 ghost use Rattle.command_words.specs.Servers.{is_next_server, links_of, marked_model, marked_of, server_found, server_of, servers_of};
+ghost use Rattle.limits.specs.declared.TheConstants.{MOST_SERVERS};
 
 use crate::keys::number_in;
+use limits::{MOST_LEVEL, MOST_LINKS, MOST_SERVERS};
 use server_logins::{cut_at, is_server};
 use std::marker::Model;
-
-/// How many servers a fetch may ask.
-pub(crate) const MOST_SERVERS: usize = 16;
-
-// How many links they may have together.
-const MOST_LINKS: u64 = 64;
-
-const MOST_LEVEL: u64 = 9;
 
 /// A news server that a fetch asks.
 #[derive(Clone, Copy, Debug)]
 pub struct ServerWords<'a> {
     /// Its address, `HOST:PORT`.
     pub address: &'a [u8],
-    /// Over how many links it is asked, 1 to 64.
+    /// Over how many links it is asked, 1 to `MOST_LINKS`.
     pub links: u32,
-    /// Its level, 0 to 9. A server is asked only for what those of lower levels don't have.
+    /// Its level, 0 to `MOST_LEVEL`. A server is asked only for what those of lower levels don't have.
     pub level: u8,
 }
 
-/// At most 16 news servers, in an array of its own. Contracts see the list of what is asked of them.
+/// At most `MOST_SERVERS` news servers, in an array of its own. Contracts see the list of what is asked of them.
 #[derive(Clone, Debug, Drop)]
 pub struct Servers<'a> {
     all: [ServerWords<'a>; MOST_SERVERS],
@@ -38,12 +32,13 @@ pub struct Servers<'a> {
 impl<'a> Model for Servers<'a> {
     ghost use Rattle.std.specs.Prelude.{◌≡◌, ◌≤◌, List, length, map, take};
     ghost use Rattle.command_words.specs.Servers.{ServerAsked, server_found};
+    ghost use Rattle.limits.specs.declared.TheConstants.{MOST_SERVERS};
 
     ghost Value = { List ServerAsked };
 
     ghost view = { λ servers. map server_found (take servers.len servers.all) };
 
-    ghost invariant = { λ servers. (servers.len ≤ 16) × (length servers.all ≡ 16) };
+    ghost invariant = { λ servers. (servers.len ≤ MOST_SERVERS) × (length servers.all ≡ MOST_SERVERS) };
 }
 
 impl<'a> Servers<'a> {
@@ -63,7 +58,7 @@ impl<'a> Servers<'a> {
 
     // Puts one more behind them.
     fn push(&mut self, server: ServerWords<'a>)
-        requires { length self.old < 16 }
+        requires { length self.old < MOST_SERVERS }
         ensures { self.new ≡ self.old ++ server_found server.entry ∷ [] }
     {
         self.all[self.len] = server;
@@ -73,7 +68,7 @@ impl<'a> Servers<'a> {
     /// All of them, in the order of the words.
     pub fn as_slice(&self) -> &[ServerWords<'a>]
         ensures servers { map server_found result.now ≡ self.now }
-        ensures few { length result.now ≤ 16 }
+        ensures few { length result.now ≤ MOST_SERVERS }
     {
         let all = &self.all[..];
         &all[..self.len]
@@ -82,7 +77,7 @@ impl<'a> Servers<'a> {
 
 /// The servers that the values of a key name, in the pairs that these words are.
 pub(crate) fn servers_in<'a>(words: &'a [String], key: &str) -> Servers<'a>
-    requires { length (values_of key.now (paired (map string_bytes words.now))) ≤ 16 }
+    requires { length (values_of key.now (paired (map string_bytes words.now))) ≤ MOST_SERVERS }
     ensures { result ≡ servers_of (values_of key.now (paired (map string_bytes words.now))) }
 {
     let mut servers = Servers::new();
@@ -98,7 +93,7 @@ pub(crate) fn servers_in<'a>(words: &'a [String], key: &str) -> Servers<'a>
 
 // Puts the server that a value names behind others, if it names one.
 fn add_server<'a>(servers: &mut Servers<'a>, value: &'a [u8])
-    requires { length servers.old < 16 }
+    requires { length servers.old < MOST_SERVERS }
     ensures { servers.new ≡ servers.old ++ servers_of (value.now ∷ []) }
 {
     match read_server(value) {
@@ -107,14 +102,15 @@ fn add_server<'a>(servers: &mut Servers<'a>, value: &'a [u8])
     }
 }
 
-/// Whether a value names a server whose links are at most 64 with those of the servers that the key names before it.
+/// Whether a value names a server whose links are at most `MOST_LINKS` with those of the servers that the key names before it.
 pub(crate) fn is_next_server(before: &[String], key: &str, value: &[u8]) -> bool
-    requires { length (values_of key.now (paired (map string_bytes before.now))) ≤ 16 }
+    requires { length (values_of key.now (paired (map string_bytes before.now))) ≤ MOST_SERVERS }
     ensures { result ≡ is_next_server (values_of key.now (paired (map string_bytes before.now))) value.now }
 {
     match read_server(value) {
         Some(server) => {
-            links_of(servers_in(before, key).as_slice()) + u64::from(server.links) <= MOST_LINKS
+            links_of(servers_in(before, key).as_slice()) + u64::from(server.links)
+                <= MOST_LINKS as u64
         }
         None => false,
     }
@@ -122,7 +118,7 @@ pub(crate) fn is_next_server(before: &[String], key: &str, value: &[u8]) -> bool
 
 // How many links servers have together.
 fn links_of(servers: &[ServerWords<'_>]) -> u64
-    requires { length servers.now ≤ 16 }
+    requires { length servers.now ≤ MOST_SERVERS }
     ensures links { result ≡ links_of (map server_found servers.now) }
     ensures most { result ≤ 68719476720 }
 {
@@ -137,10 +133,10 @@ fn links_of(servers: &[ServerWords<'_>]) -> u64
 fn read_server(value: &[u8]) -> Option<ServerWords<'_>>
     ensures { option_map server_found result ≡ server_of value.now }
 {
-    let Some(leveled) = read_marked(value, b'@', 0, MOST_LEVEL, 0) else {
+    let Some(leveled) = read_marked(value, b'@', 0, MOST_LEVEL as u64, 0) else {
         return None;
     };
-    let Some(linked) = read_marked(leveled.front, b'*', 1, MOST_LINKS, 1) else {
+    let Some(linked) = read_marked(leveled.front, b'*', 1, MOST_LINKS as u64, 1) else {
         return None;
     };
     if !is_server(linked.front) {

@@ -10,20 +10,32 @@ use crate::keys::{
     Form, Key, Rule, check_pairs, file_name, form_or_file, has_key, number_or, value_in,
 };
 use crate::post::{PostWords, read_post};
-use limits::MOST_PART_BYTES;
+use limits::{LEAST_LINE, MOST_LINE, MOST_PART_BYTES, MOST_PATIENCE};
 use yenc_lines::Name;
-
-// How many characters a data line has before it is full.
-pub(crate) const LEAST_LINE: u64 = 64;
-
-pub(crate) const MOST_LINE: u64 = 997;
 
 // The greatest number of a part.
 const MOST_PART: u64 = 4_294_967_295;
 
-// How many receives may get nothing before a server is given up.
-pub(crate) const MOST_PATIENCE: u64 = 100_000;
+// How many characters a data line has before it is full, where the words don't say it.
+pub(crate) const LINE: u64 = 128;
 
+// What a number of characters in a data line, of bytes in a part and of receives that get nothing may be.
+pub(crate) const LINE_RULE: Rule = Rule::Number {
+    least: LEAST_LINE as u64,
+    most: MOST_LINE as u64,
+};
+
+pub(crate) const PART_SIZE_RULE: Rule = Rule::Number {
+    least: 1,
+    most: MOST_PART_BYTES as u64,
+};
+
+pub(crate) const PATIENCE_RULE: Rule = Rule::Number {
+    least: 1,
+    most: MOST_PATIENCE as u64,
+};
+
+// How many receives may get nothing before a server is given up, where the words don't say it.
 pub(crate) const PATIENCE: u64 = 1500;
 
 /// What the words ask for.
@@ -48,7 +60,7 @@ pub struct EncodeWords<'a> {
     pub path: &'a str,
     /// The name in the header.
     pub name: Name,
-    /// How many characters a data line has before it is full, 64 to 997.
+    /// How many characters a data line has before it is full, `LEAST_LINE` to `MOST_LINE`.
     pub line: u16,
     /// How many bytes the parts have, 1 to 16,777,216; the last one may have fewer.
     pub part_size: u32,
@@ -142,17 +154,11 @@ fn encode_keys(is_named: bool) -> [Key; 5]
         },
         Key {
             word: "--line",
-            rule: Rule::Number {
-                least: LEAST_LINE,
-                most: MOST_LINE,
-            },
+            rule: LINE_RULE,
         },
         Key {
             word: "--part-size",
-            rule: Rule::Number {
-                least: 1,
-                most: MOST_PART_BYTES as u64,
-            },
+            rule: PART_SIZE_RULE,
         },
         Key {
             word: "--part",
@@ -179,7 +185,7 @@ fn read_encode(words: &[String]) -> Result<EncodeWords<'_>, u64>
     Ok(EncodeWords {
         path,
         name: header_name(words, path),
-        line: number_or(words, "--line", LEAST_LINE, MOST_LINE, 128) as u16,
+        line: number_or(words, "--line", LEAST_LINE as u64, MOST_LINE as u64, LINE) as u16,
         part_size: number_or(
             words,
             "--part-size",

@@ -1,3 +1,4 @@
+pub mod FileLaws
 pub mod Lives
 pub mod NamedFiles
 pub mod ScriptLaws

@@ -1,2 +1,3 @@
 pub mod FlatLines
+pub mod OnePlace
 pub mod TextLines

@@ -5,24 +5,41 @@ ghost use Rattle.link_dialog.specs.Talk.{HasNoBlock, link_of_dialog};
 
 use io_memory::ScriptLinks;
 use link_dialog::{Answer, Awaited, Cut, Dialog, NotOpen};
+use lists::Memory;
 use nntp_lines::{Login, LoginWord, Why};
-use row_fixtures::{are_kinds, bytes_sent, quiet_links_of};
+use row_fixtures::{are_kinds, bytes_sent, quiet_links_of, taking_links_of};
+use std::alloc::Global;
 use std::process::Abort;
 
-/// Links of which the first gives these pieces, and then is quiet. The calls of these numbers fail.
+/// Links of which the first gives these pieces, with bars between them, and then is quiet. The call of this number, from 1,
+/// fails, and the sends take at most so many bytes each.
 pub(crate) fn links_of<R: Abort + AllocGlobal>(
     rt: &R,
-    pieces: &[&[u8]],
-    failing: &[u64],
+    pieces: &str,
+    failing: u64,
+    takes: &[usize],
 ) -> ScriptLinks {
-    quiet_links_of(rt.alloc(), pieces, failing).expect(rt, "links")
+    cut_links_of(rt.alloc(), pieces, failing, takes).expect(rt, "links")
 }
 
-/// The login of this user with this password.
-pub(crate) fn login_of<R: Abort>(rt: &R, user: &[u8], pass: &[u8]) -> Login {
+fn cut_links_of(
+    alloc: Global,
+    text: &str,
+    failing: u64,
+    takes: &[usize],
+) -> Result<ScriptLinks, Memory> {
+    let mut pieces = Vec::new(alloc);
+    for piece in text.split('|') {
+        pieces.push(piece.as_bytes())?;
+    }
+    taking_links_of(alloc, pieces.as_slice(), &[failing], takes)
+}
+
+// The login of the user bob.
+fn login_of<R: Abort>(rt: &R) -> Login {
     Login {
-        user: LoginWord::new(user).expect(rt, "a name"),
-        pass: LoginWord::new(pass).expect(rt, "a password"),
+        user: LoginWord::new(b"bob").expect(rt, "a name"),
+        pass: LoginWord::new(b"secret").expect(rt, "a password"),
     }
 }
 
@@ -35,16 +52,28 @@ pub(crate) enum Stop {
     Over(Why),
 }
 
-/// Opens a link, posts one article and quits, with a patience of three, and asserts what that came to: the codes are those of
-/// the replies to `POST` and to the article.
+/// Opens a link, with the login of bob or with none, posts one article and quits, with a patience of three, and asserts what
+/// that came to: the codes are those of the replies to `POST` and to the article.
 pub(crate) fn posts<R: Abort>(
     rt: &R,
     mut links: ScriptLinks,
-    login: Option<&Login>,
+    logs_in: bool,
     wanted: Result<(u16, u16), Stop>,
 ) -> ScriptLinks {
+    let login = login_of(rt);
+    let login = if logs_in { Some(&login) } else { None };
     assert!(rt; talk(&mut links, login, 3) == wanted, "{wanted:?}");
     links
+}
+
+/// The same without a login, where these pieces come.
+pub(crate) fn came_to<R: Abort + AllocGlobal>(
+    rt: &R,
+    pieces: &[&[u8]],
+    wanted: Result<(u16, u16), Stop>,
+) {
+    let links = quiet_links_of(rt.alloc(), pieces, &[]).expect(rt, "links");
+    posts(rt, links, false, wanted);
 }
 
 // Opens a link, posts one article and quits. The codes are those of the replies to `POST` and to the article.
@@ -84,18 +113,14 @@ fn ask(dialog: &Dialog, links: &mut ScriptLinks, message: &[u8], kind: Awaited) 
     }
 }
 
-/// Asserts that these are the kinds of all events, by their first letters.
-pub(crate) fn happened<R: Abort>(rt: &R, links: ScriptLinks, kinds: &[u8]) {
-    assert!(rt; are_kinds(links.events(), kinds));
-}
-
-/// Asserts that the bytes that went out are these, and gives the links back.
-pub(crate) fn sent<R: Abort + AllocGlobal>(
+/// Asserts that these bytes went out, and that these are the kinds of all events, by their first letters.
+pub(crate) fn happened<R: Abort + AllocGlobal>(
     rt: &R,
     links: ScriptLinks,
-    wanted: &[u8],
-) -> ScriptLinks {
+    sent: &str,
+    kinds: &str,
+) {
     let bytes = bytes_sent(rt.alloc(), links.events()).expect(rt, "bytes");
-    assert!(rt; bytes.as_slice() == wanted);
-    links
+    assert!(rt; bytes.as_slice() == sent.as_bytes(), "{sent:?}");
+    assert!(rt; are_kinds(links.events(), kinds.as_bytes()), "{kinds:?}");
 }

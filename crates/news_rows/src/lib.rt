@@ -6,16 +6,14 @@ mod blocks;
 #[cfg(test)]
 mod dialog_fixtures;
 #[cfg(test)]
+mod dialogs;
+#[cfg(test)]
 mod heads;
 #[cfg(test)]
 mod logins;
-#[cfg(test)]
-mod openings;
-#[cfg(test)]
-mod postings;
 #[cfg(test)]
 mod readings;
 #[cfg(test)]
 mod replies;
 #[cfg(test)]
-mod short_sends;
+mod rules;

@@ -23,15 +23,14 @@ fn over(links: &mut ScriptLinks, room: usize, block: &mut Bytes) -> Option<Answe
     if heard.kept { Some(heard.answer) } else { None }
 }
 
-// Asserts what a reply to `OVER` is, and that this block of it is kept, where an old one was.
-fn hears<R: Abort + AllocGlobal>(rt: &R, reply: &[u8], room: usize, wanted: Answer, kept: &[u8]) {
-    let mut links = links_of(rt, &[b"200 hi\r\n", reply], &[]);
+// Asserts what comes of these pieces, with bars between them, and that this block of a reply to `OVER` is kept, where an old one
+// was.
+fn hears<R: Abort + AllocGlobal>(rt: &R, pieces: &str, room: usize, wanted: Answer, kept: &str) {
+    let mut links = links_of(rt, pieces, 0, &[]);
     let mut block = bytes_of(rt.alloc(), b"old").expect(rt, "a block");
-    assert!(rt;
-        over(&mut links, room, &mut block) == Some(wanted),
-        "{wanted:?}"
-    );
-    assert!(rt; block.as_slice() == kept, "{wanted:?}");
+    let heard = over(&mut links, room, &mut block);
+    assert!(rt; heard == Some(wanted), "{wanted:?}");
+    assert!(rt; block.as_slice() == kept.as_bytes(), "{wanted:?}");
 }
 
 // Opens a link, says `GROUP` and hears the reply.
@@ -50,54 +49,65 @@ fn choose(mut links: ScriptLinks) -> Option<GroupAnswer> {
 #[test]
 fn a_block_is_heard_in_receives_of_any_length(rt: HostRuntime) {
     for room in 0..40u8 {
-        let reply = b"224 follows\r\n1\ta\r\n..2\r\n.\r\n";
-        let kept = b"1\ta\r\n..2\r\n.\r\n";
-        hears(&rt, reply, room as usize, Answer::Code(224), kept);
+        let pieces = "200 hi\r\n|224 follows\r\n1\ta\r\n..2\r\n.\r\n";
+        let kept = "1\ta\r\n..2\r\n.\r\n";
+        hears(&rt, pieces, room as usize, Answer::Code(224), kept);
     }
 }
+
+// Greetings and replies to `OVER`, what comes of them, and the block that is kept.
+const BLOCKS: [(&str, Answer, &str); 7] = [
+    ("200 hi\r\n|224 x\r\n.\r\n", Answer::Code(224), ".\r\n"),
+    ("200 hi\r\n|423 none\r\n", Answer::Code(423), ""),
+    ("200 hi\r\n|423 none\r\n.", Answer::Unasked(423), ""),
+    (
+        "200 hi\r\n|224 x\r\na\r\n.\r\n\r\n",
+        Answer::Unasked(224),
+        "a\r\n.\r\n",
+    ),
+    (
+        "200 hi\r\n|224 x\r\na\r\n.x\r\n",
+        Answer::Over(Why::Quiet),
+        "a\r\n.x\r\n",
+    ),
+    ("200 hi\r\n|211 x\r\n", Answer::Over(Why::Odd(211)), ""),
+    ("200 hi\r\n|22\r\n", Answer::Over(Why::NoReply), ""),
+];
 
 #[test]
 fn replies_to_over_end_where_they_end(rt: HostRuntime) {
-    let rows: [(&[u8], Answer, &[u8]); 7] = [
-        (b"224 x\r\n.\r\n", Answer::Code(224), b".\r\n"),
-        (b"423 none\r\n", Answer::Code(423), b""),
-        (b"423 none\r\n.", Answer::Unasked(423), b""),
-        (
-            b"224 x\r\na\r\n.\r\n\r\n",
-            Answer::Unasked(224),
-            b"a\r\n.\r\n",
-        ),
-        (
-            b"224 x\r\na\r\n.x\r\n",
-            Answer::Over(Why::Quiet),
-            b"a\r\n.x\r\n",
-        ),
-        (b"211 x\r\n", Answer::Over(Why::Odd(211)), b""),
-        (b"22\r\n", Answer::Over(Why::NoReply), b""),
-    ];
-    for (reply, wanted, kept) in rows {
-        hears(&rt, reply, 63, wanted, kept);
+    for (pieces, wanted, kept) in BLOCKS {
+        hears(&rt, pieces, 63, wanted, kept);
     }
 }
 
+const GROUP: GroupReply = GroupReply {
+    count: 3,
+    low: 7,
+    high: 9,
+};
+
+// Greetings and replies to `GROUP`, and what comes of them.
+const GROUPS: [(&str, GroupAnswer); 7] = [
+    ("200 hi\r\n|211 3 7 9 a.b\r\n", GroupAnswer::Chosen(GROUP)),
+    (
+        "200 hi\r\n|211 3 7 a.b\r\n",
+        GroupAnswer::Over(Why::NoReply),
+    ),
+    ("200 hi\r\n|411 none\r\n", GroupAnswer::Code(411)),
+    ("200 hi\r\n|500 what\r\n", GroupAnswer::Code(500)),
+    ("200 hi\r\n|340 no\r\n", GroupAnswer::Over(Why::Odd(340))),
+    (
+        "200 hi\r\n|211 3 7 9 a.b\r\nx",
+        GroupAnswer::ChosenUnasked(GROUP),
+    ),
+    ("200 hi\r\n|411 none\r\nx", GroupAnswer::Unasked(411)),
+];
+
 #[test]
 fn a_newsgroup_is_chosen_with_its_numbers(rt: HostRuntime) {
-    let group = GroupReply {
-        count: 3,
-        low: 7,
-        high: 9,
-    };
-    let rows: [(&[u8], GroupAnswer); 7] = [
-        (b"211 3 7 9 a.b\r\n", GroupAnswer::Chosen(group)),
-        (b"211 3 7 a.b\r\n", GroupAnswer::Over(Why::NoReply)),
-        (b"411 none\r\n", GroupAnswer::Code(411)),
-        (b"500 what\r\n", GroupAnswer::Code(500)),
-        (b"340 no\r\n", GroupAnswer::Over(Why::Odd(340))),
-        (b"211 3 7 9 a.b\r\nx", GroupAnswer::ChosenUnasked(group)),
-        (b"411 none\r\nx", GroupAnswer::Unasked(411)),
-    ];
-    for (reply, wanted) in rows {
-        let links = links_of(&rt, &[b"200 hi\r\n", reply], &[]);
+    for (pieces, wanted) in GROUPS {
+        let links = links_of(&rt, pieces, 0, &[]);
         assert!(rt; choose(links) == Some(wanted), "{wanted:?}");
     }
 }

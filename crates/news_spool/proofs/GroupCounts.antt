@@ -4,8 +4,9 @@ use Rattle.std.specs.Prelude.{Option, filter, fold, min, max}
 use Rattle.std.specs.List.{enumerate_from}
 use Rattle.std.proofs.Math.ListN.{drop_of_length-le}
 use Rattle.nntp_lines.specs.declared.group.GroupReply.{GroupReply}
-use Rattle.news_spool.specs.declared.article.Article.{Article}
-use Rattle.news_spool.specs.Groups.{count_of, group_count, in_group, with_number}
+use Rattle.held_articles.specs.declared.article.Article.{Article}
+use Rattle.held_articles.specs.Articles.{in_group}
+use Rattle.news_spool.specs.Groups.{count_of, group_count, with_number}
 
 -- the numbers of the articles in a newsgroup, of which the first has this number
 abbrev pub numbers_from : ℕ → List ℕ → List Article → List ℕ

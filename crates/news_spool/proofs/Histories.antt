@@ -8,7 +8,7 @@ use Rattle.io_traits.specs.declared.links.Got.TheVariants as got
 use Rattle.io_traits.specs.declared.links.LinkEvent.{LinkEvent}
 use Rattle.io_traits.specs.declared.links.LinkEvent.TheVariants.{Opened, Sent, Heard, Quiet, Ended}
 use Rattle.io_traits.specs.Links.{GotFits, heard_events, opened_events, sent_events}
-use Rattle.news_spool.specs.declared.article.Article.{Article}
+use Rattle.held_articles.specs.declared.article.Article.{Article}
 use Rattle.news_spool.specs.declared.link_state.LinkState.{LinkState}
 use Rattle.news_spool.specs.declared.plan.SpoolPlan.{SpoolPlan}
 use Rattle.news_spool.specs.declared.spool.Spool.{Spool}

@@ -1,7 +1,7 @@
 pub mod GroupCounts
 pub mod Histories
+pub mod LineEnds
 pub mod LinkLaws
-pub mod OctetCounts
 pub mod OneLine
 pub mod OverviewLines
 pub mod Places

@@ -9,9 +9,10 @@ use Rattle.std.proofs.lemmas.List.Elements.{recursion_from_All}
 use Rattle.std.proofs.lemmas.List.Folds.{list_all-append}
 use Rattle.dot_blocks.specs.Blocks.{HoldsNoLineEnd}
 use Rattle.nntp_lines.specs.MessageId.{IsMessageId, is_id_byte}
-use Rattle.news_spool.specs.declared.article.Article.{Article}
-use Rattle.news_spool.specs.Fields.{field_of}
-use Rattle.news_spool.specs.Overview.{bracketed, field_text, is_control, octets_of, overview_of, spaced, spaced_byte}
+use Rattle.held_articles.specs.declared.article.Article.{Article}
+use Rattle.held_articles.specs.Fields.{field_of}
+use Rattle.held_articles.specs.Octets.{octets_of}
+use Rattle.news_spool.specs.Overview.{bracketed, field_text, is_control, overview_of, spaced, spaced_byte}
 use Rattle.news_spool.proofs.SaidNumbers.{decimal_digits}
 
 abbrev is_other : ℕ → Bool

@@ -4,10 +4,11 @@ use Rattle.std.specs.Prelude.{codes, decimal, slice_get}
 use Rattle.std.proofs.lemmas.Bool.{ne_eqb}
 use Rattle.std.proofs.lemmas.Fmt.{first_decimal}
 use Rattle.dot_blocks.specs.Blocks.{stuffed, stuffed_line}
-use Rattle.news_spool.specs.declared.article.Article.{Article}
-use Rattle.news_spool.specs.Groups.{in_group}
-use Rattle.news_spool.specs.Overview.{field_text, octets_of, overview_of, overviews_from}
-use Rattle.news_spool.proofs.Places.{from_place}
+use Rattle.held_articles.specs.declared.article.Article.{Article}
+use Rattle.held_articles.specs.Articles.{in_group}
+use Rattle.held_articles.specs.Octets.{octets_of}
+use Rattle.news_spool.specs.Overview.{field_text, overview_of, overviews_from}
+use Rattle.held_articles.proofs.Places.{from_place}
 
 grouped : (z a b c d e f g h i j k : List ℕ) → (((((((((((z ++ a) ++ b) ++ c) ++ d) ++ e) ++ f) ++ g) ++ h) ++ i) ++ j) ++ k)
     ≡ z ++ (a ++ (b ++ (c ++ (d ++ (e ++ (f ++ (g ++ (h ++ (i ++ (j ++ k))))))))))

@@ -2,19 +2,23 @@
 use Rattle.std.proofs.Common.{◌≡◌, ℕ, ◌++◌, true, false, List, [], ◌∷◌, Some, None, length, refl}
 use Rattle.std.specs.Fmt.{digits}
 use Rattle.std.specs.Prelude.{codes, Option}
-use Rattle.news_spool.specs.declared.article.Article.{Article}
+use Rattle.held_articles.specs.declared.article.Article.{Article}
 use Rattle.news_spool.specs.declared.link_state.Due.TheVariants as due
 use Rattle.news_spool.specs.declared.link_state.LinkState.{LinkState}
-use Rattle.news_spool.specs.declared.reply.Answer.TheVariants.{Group, Line, Overview}
+use Rattle.news_spool.specs.declared.reply.Answer.TheVariants.{Body, Group, Line, Overview, Stat}
 use Rattle.news_spool.specs.declared.reply.Reply.TheVariants.{Send, LoginFirst, PassNext, LoggedIn, NameFirst, WrongLogin, NoLogin, Bye, What}
-use Rattle.news_spool.specs.Answers.{answer_to, reply_text}
-use Rattle.news_spool.specs.Articles.{article_of}
-use Rattle.news_spool.specs.Fields.{field_of, id_of, newsgroups_of}
-use Rattle.news_spool.specs.Groups.{group_line, group_reply, in_group}
+use Rattle.news_spool.specs.Answers.{answer_to, article_answer, reply_text}
+use Rattle.held_articles.specs.Articles.{article_of}
+use Rattle.held_articles.specs.Fields.{field_of, id_of, newsgroups_of}
+use Rattle.held_articles.specs.Articles.{in_group}
+use Rattle.held_articles.specs.ById.{present_article}
+use Rattle.news_spool.specs.Bodies.{body_reply, stat_reply}
+use Rattle.news_spool.specs.Groups.{group_line, group_reply}
 use Rattle.news_spool.specs.LinkState.{due_on, given, heard_bytes, new_link}
 use Rattle.news_spool.specs.Overview.{over_reply, overview_of}
 use Rattle.news_spool.specs.Pieces.{next_turn, piece_at}
 use Rattle.news_spool.specs.Ranges.{range_of}
+use Rattle.news_spool.specs.declared.plan.SpoolServer.{SpoolServer}
 
 -- ---- commands
 
@@ -54,7 +58,7 @@ unfolding answer_to
 no_login = refl
 
 pub other_word : answer_to None false None (codes "AUTHINFOX") ≡ Line What
-unfolding answer_to
+unfolding answer_to article_answer
 other_word = refl
 
 pub group_is_asked : answer_to None false None (codes "GROUP a") ≡ Group
@@ -68,6 +72,26 @@ overview_is_asked = refl
 pub login_before_a_group : answer_to own false None (codes "GROUP a") ≡ Line LoginFirst
 unfolding answer_to
 login_before_a_group = refl
+
+pub body_is_asked : answer_to None false None (codes "BODY <a@b>") ≡ Body (codes "a@b")
+unfolding answer_to article_answer
+body_is_asked = refl
+
+pub presence_is_asked : answer_to None false None (codes "STAT <a@b>") ≡ Stat (codes "a@b")
+unfolding answer_to article_answer
+presence_is_asked = refl
+
+pub login_before_a_body : answer_to own false None (codes "BODY <a@b>") ≡ Line LoginFirst
+unfolding answer_to
+login_before_a_body = refl
+
+pub body_by_number : answer_to None false None (codes "BODY 5") ≡ Line What
+unfolding answer_to article_answer
+body_by_number = refl
+
+pub stat_of_nothing : answer_to None false None (codes "STAT") ≡ Line What
+unfolding answer_to article_answer
+stat_of_nothing = refl
 
 -- ---- ranges
 
@@ -115,6 +139,9 @@ article_in newsgroups = record {
   body = codes "line" ∷ [] ∷ [];
 }
 
+abbrev article_of_id : List ℕ → Article
+article_of_id id = record { id = id; newsgroups = codes "x"; head = []; body = [] }
+
 abbrev three : List Article
 three = article_in (codes "x,y") ∷ article_in (codes "y") ∷ article_in (codes "x") ∷ []
 
@@ -133,6 +160,25 @@ first_and_third = refl
 pub no_article : group_reply (codes "z") three ≡ codes "411 none\r\n"
 unfolding group_line in_group reply_text
 no_article = refl
+
+-- ---- bodies
+
+abbrev dotted : Article
+dotted = record { id = codes "d@e"; newsgroups = codes "x"; head = []; body = codes "one" ∷ codes ".two" ∷ [] ∷ [] }
+
+pub dots_are_stuffed : body_reply (present_article (codes "d@e") (1 ∷ 3 ∷ []) (article_of_id (codes "f@g") ∷ dotted ∷ [])) ≡ codes "222 0 <d@e>\r\none\r\n..two\r\n\r\n.\r\n"
+dots_are_stuffed = refl
+
+pub lacked_body : body_reply (present_article (codes "d@e") (1 ∷ 2 ∷ []) (article_of_id (codes "f@g") ∷ dotted ∷ [])) ≡ codes "430 none\r\n"
+unfolding reply_text
+lacked_body = refl
+
+pub unknown_body : body_reply (present_article (codes "d@f") [] (dotted ∷ [])) ≡ codes "430 none\r\n"
+unfolding reply_text
+unknown_body = refl
+
+pub article_is_there : stat_reply (present_article (codes "d@e") [] (dotted ∷ [])) ≡ codes "223 0 <d@e>\r\n"
+article_is_there = refl
 
 -- ---- overviews
 
@@ -156,8 +202,11 @@ none_chosen = refl
 
 -- ---- links
 
+abbrev open_server : SpoolServer
+open_server = record { address = []; absent = 2 ∷ []; login = None }
+
 abbrev heard : List ℕ → LinkState × List Article
-heard bytes = heard_bytes None [] bytes (new_link 0 None None, [])
+heard bytes = heard_bytes open_server [] bytes (new_link 0 None None, [])
 
 pub greeting : (heard []).0.talk.owed ≡ codes "200 ready\r\n"
 unfolding reply_text
@@ -192,6 +241,11 @@ known_changes_nothing = refl
 pub refusal_keeps_the_group : (heard (posted ++ codes "GROUP b\r\nGROUP c\r\nOVER 1-1\r\n")).0.talk.group ≡ Some (codes "b")
 unfolding answer_to range_of reply_text article_of in_group group_line overview_of
 refusal_keeps_the_group = refl
+
+-- the dot that was taken off is put on again
+pub body_of_what_was_posted : (heard (posted ++ codes "BODY <d>\r\n")).0.talk.owed ≡ codes "200 ready\r\n340 send\r\n240 posted\r\n222 0 <d>\r\n..e\r\n.\r\n"
+unfolding answer_to article_answer reply_text article_of
+body_of_what_was_posted = refl
 
 -- nothing is heard behind the end of the session
 pub nothing_is_heard : (heard (codes "QUIT\r\nPOST\r\n")).0.talk.owed ≡ codes "200 ready\r\n205 bye\r\n"

@@ -11,6 +11,7 @@ use Rattle.numbers.specs.Numbers.{decimal_of, within}
 use Rattle.nntp_lines.specs.GroupReply.{IsGroupLine, number_of}
 use Rattle.nntp_lines.specs.declared.group.GroupReply.{GroupReply}
 use Rattle.news_spool.specs.Groups.{group_line}
+use Rattle.limits.specs.declared.TheConstants.{MOST_ARTICLE}
 
 digit_is : (c : ℕ) → digit_value c < 10 → is_ascii_digit c ≡ true
 digit_is c h = grind (arith, nat_tests)
@@ -26,21 +27,21 @@ numeral_read : (ds : List ℕ) → 0 < length ds → AllDigits 10 ds → decimal
 numeral_read [] some digits = absurd (omega arith)
 numeral_read (d ∷ ds) some digits = rw (digits_are (d ∷ ds) digits) refl
 
-within_is : (n : ℕ) → n ≤ 9999999999999999 → within 0 9999999999999999 (Some n) ≡ Some n
+within_is : (n : ℕ) → n ≤ MOST_ARTICLE → within 0 MOST_ARTICLE (Some n) ≡ Some n
 within_is n most =
     let least : nat_le 0 n ≡ true = grind (arith, nat_tests) in
-    let greatest : nat_le n 9999999999999999 ≡ true = grind (arith, nat_tests) in
+    let greatest : nat_le n MOST_ARTICLE ≡ true = grind (arith, nat_tests) in
     rw (least, greatest) refl
 
-number_read : (n : ℕ) → n ≤ 9999999999999999 → number_of (decimal n) ≡ Some n
+number_read : (n : ℕ) → n ≤ MOST_ARTICLE → number_of (decimal n) ≡ Some n
 number_read n most =
     let numeral = decimal_is_IsNumeral n (omega arith) in
-    ap (within 0 9999999999999999) (numeral_read (decimal n) numeral.0.0 numeral.0.1 ∙ ap Some numeral.1) ∙ within_is n most
+    ap (within 0 MOST_ARTICLE) (numeral_read (decimal n) numeral.0.0 numeral.0.1 ∙ ap Some numeral.1) ∙ within_is n most
 
 parts : (a b c d e f g h : List ℕ) → (((((((a ++ b) ++ c) ++ d) ++ e) ++ f) ++ g) ++ h) ≡ a ++ (b ++ (c ++ (d ++ (e ++ (f ++ (g ++ h))))))
 parts a b c d e f g h = simp append_assoc
 
-pub says_counts : (name : List ℕ) (told : GroupReply) → told.count ≤ 9999999999999999 → told.low ≤ 9999999999999999 → told.high ≤ 9999999999999999
+pub says_counts : (name : List ℕ) (told : GroupReply) → told.count ≤ MOST_ARTICLE → told.low ≤ MOST_ARTICLE → told.high ≤ MOST_ARTICLE
     → IsGroupLine (group_line name told) told
 unfolding group_line
 says_counts name told count low high = record {

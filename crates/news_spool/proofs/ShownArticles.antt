@@ -7,11 +7,11 @@ use Rattle.std.proofs.lemmas.Bool.Decides.{nat_tests}
 use Rattle.std.proofs.lemmas.List.{length-drop, take_all}
 use Rattle.std.proofs.Math.ListN.{drop_of_length-le}
 use Rattle.dot_blocks.specs.Blocks.{stuffed}
-use Rattle.news_spool.specs.declared.article.Article.{Article}
+use Rattle.held_articles.specs.declared.article.Article.{Article}
 use Rattle.news_spool.specs.declared.range.NumberRange.{NumberRange}
 use Rattle.news_spool.specs.declared.reply.Reply.TheVariants.{Follows, NoneInRange}
 use Rattle.news_spool.specs.Answers.{reply_text}
-use Rattle.news_spool.specs.Groups.{in_group}
+use Rattle.held_articles.specs.Articles.{in_group}
 use Rattle.news_spool.specs.Overview.{lines_reply, overview_of, overviews, overviews_from}
 use Rattle.news_spool.specs.Ranges.{is_within}
 

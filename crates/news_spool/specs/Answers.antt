@@ -1,13 +1,14 @@
 -- What a server in memory answers to a command (RFC 3977, and RFC 4643 for the login).
-use Rattle.std.specs.Prelude.{ℕ, Bool, not, ◌&&◌, ◌||◌, nat_lt, if◌then◌else◌, List, ◌++◌, length, take, drop, codes, Option, Some, None}
+use Rattle.std.specs.Prelude.{ℕ, Bool, not, ◌&&◌, ◌||◌, nat_lt, if◌then◌else◌, List, ◌++◌, length, drop, codes, Option, Some, None}
 use Rattle.std.specs.Option.{is_some}
 use Rattle.std.specs.Str.{bytes_eq}
 use Rattle.nntp_lines.specs.Command.{crlf}
 use Rattle.news_spool.specs.declared.range.NumberRange.{NumberRange}
 use Rattle.news_spool.specs.declared.reply.Answer.{Answer}
-use Rattle.news_spool.specs.declared.reply.Answer.TheVariants.{Line, Group, Overview}
+use Rattle.news_spool.specs.declared.reply.Answer.TheVariants.{Line, Group, Overview, Body, Stat}
 use Rattle.news_spool.specs.declared.reply.Reply.{Reply}
-use Rattle.news_spool.specs.declared.reply.Reply.TheVariants.{Ready, Send, Posted, Refused, NotInGroup, NoneChosen, NoneInRange, Follows, Bye, LoginFirst, PassNext, LoggedIn, NameFirst, WrongLogin, NoLogin, What}
+use Rattle.news_spool.specs.declared.reply.Reply.TheVariants.{Ready, Send, Posted, Refused, NotInGroup, NoneChosen, NoneInRange, NoneWithId, Follows, Bye, LoginFirst, PassNext, LoggedIn, NameFirst, WrongLogin, NoLogin, What}
+use Rattle.held_articles.specs.Fields.{begins, id_in}
 use Rattle.news_spool.specs.Ranges.{range_of}
 
 -- ---- the text of each reply
@@ -21,6 +22,7 @@ reply_line Refused = codes "441 refused"
 reply_line NotInGroup = codes "411 none"
 reply_line NoneChosen = codes "412 no group"
 reply_line NoneInRange = codes "423 none"
+reply_line NoneWithId = codes "430 none"
 reply_line Follows = codes "224 follows"
 reply_line Bye = codes "205 bye"
 reply_line LoginFirst = codes "480 login"
@@ -37,12 +39,9 @@ reply_text reply = reply_line reply ++ crlf
 
 -- ---- the reply to each command
 
--- a line has this text, or begins with it
+-- a line has this text
 abbrev pub is_line : List ℕ → List ℕ → Bool
 is_line text line = bytes_eq line text
-
-abbrev pub begins : List ℕ → List ℕ → Bool
-begins text line = bytes_eq (take (length text) line) text
 
 -- the line is a command of the login (RFC 4643, 2.3)
 abbrev pub is_authinfo : List ℕ → Bool
@@ -84,6 +83,22 @@ abbrev pub over_answer : Option NumberRange → Answer
 over_answer None = Line What
 over_answer (Some range) = Overview range
 
+-- to one that asks for an article's body (RFC 3977, 6.2.3), or whether it is there (6.2.4), by the message-id that it gives
+abbrev pub body_answer : Option (List ℕ) → Answer
+body_answer None = Line What
+body_answer (Some id) = Body id
+
+abbrev pub stat_answer : Option (List ℕ) → Answer
+stat_answer None = Line What
+stat_answer (Some id) = Stat id
+
+-- to such a command, and to one that the server doesn't know
+unfoldable pub article_answer : List ℕ → Answer
+article_answer line =
+    if begins (codes "BODY ") line then body_answer (id_in (drop 5 line))
+    else if begins (codes "STAT ") line then stat_answer (id_in (drop 5 line))
+    else Line What
+
 -- To any line of a command, by the server's login, whether the link is logged in, and the name that came last. A line of
 -- more than 510 bytes is no command (RFC 3977, 3.1).
 unfoldable pub answer_to : Option (List ℕ × List ℕ) → Bool → Option (List ℕ) → List ℕ → Answer
@@ -95,4 +110,4 @@ answer_to login logged_in name line =
     else if is_line (codes "POST") line then Line Send
     else if is_group line then Group
     else if is_over line then over_answer (range_of (drop 5 line))
-    else Line What
+    else article_answer line

@@ -1,17 +1,12 @@
 -- What a server in memory says of a newsgroup (RFC 3977, 6.1.1). Its articles have the numbers from 1 on.
-use Rattle.std.specs.Prelude.{ℕ, ◌+◌, ◌<◌, min, max, Bool, List, [], ◌∷◌, ◌++◌, length, map, filter, fold, codes, decimal, Option, Some, None}
-use Rattle.std.specs.List.{enumerate_from, list_any}
-use Rattle.std.specs.Str.{bytes_eq}
-use Rattle.article_head.specs.Field.{names_of}
+use Rattle.std.specs.Prelude.{ℕ, ◌+◌, ◌<◌, min, max, List, [], ◌∷◌, ◌++◌, length, map, filter, fold, codes, decimal, Option, Some, None}
+use Rattle.std.specs.List.{enumerate_from}
 use Rattle.nntp_lines.specs.Command.{crlf}
 use Rattle.nntp_lines.specs.declared.group.GroupReply.{GroupReply}
-use Rattle.news_spool.specs.declared.article.Article.{Article}
+use Rattle.held_articles.specs.declared.article.Article.{Article}
+use Rattle.held_articles.specs.Articles.{in_group}
 use Rattle.news_spool.specs.declared.reply.Reply.TheVariants.{NotInGroup}
 use Rattle.news_spool.specs.Answers.{reply_text}
-
--- an article is in the newsgroup of this name (RFC 5536, 3.1.4)
-unfoldable pub in_group : List ℕ → Article → Bool
-in_group name article = list_any (λ own. bytes_eq own name) (names_of article.newsgroups)
 
 -- the articles that are in it, each with its number
 abbrev pub articles_in : List ℕ → List Article → List (ℕ × Article)

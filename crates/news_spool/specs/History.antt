@@ -5,7 +5,7 @@ use Rattle.std.specs.Prelude.{◌≡◌, List, [], ◌∷◌, ◌++◌, length, 
 use Rattle.std.specs.Option.{option_to_list}
 use Rattle.io_traits.specs.declared.links.LinkEvent.{LinkEvent}
 use Rattle.io_traits.specs.declared.links.LinkEvent.TheVariants.{Opened, Sent, Heard, Quiet, Ended}
-use Rattle.news_spool.specs.declared.article.Article.{Article}
+use Rattle.held_articles.specs.declared.article.Article.{Article}
 use Rattle.news_spool.specs.declared.link_state.LinkState.{LinkState}
 use Rattle.news_spool.specs.declared.plan.SpoolPlan.{SpoolPlan}
 use Rattle.news_spool.specs.declared.spool.Spool.{Spool}

@@ -1,12 +1,11 @@
 pub mod Answers
-pub mod Articles
-pub mod Fields
+pub mod Bodies
 pub mod Groups
 pub mod History
 pub mod Laws
 pub mod LinkState
+pub mod Lines
 pub mod Links
-pub mod Octets
 pub mod Overview
 pub mod Pieces
 pub mod Ranges

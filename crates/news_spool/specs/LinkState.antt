@@ -1,14 +1,14 @@
 -- What bytes do that a server in memory hears on a link, and what is due to a receive there.
-use Rattle.std.specs.Prelude.{ℕ, ◌-◌, ◌<◌, ◌≤◌, min, ⊤, IfSome, Bool, true, false, ◌==◌, nat_eq, if◌then◌else◌, List, [], ◌∷◌, ◌++◌, length, take, drop, Option, None}
-use Rattle.std.specs.List.{ends_with}
-use Rattle.nntp_lines.specs.Command.{crlf}
-use Rattle.news_spool.specs.declared.article.Article.{Article}
+use Rattle.std.specs.Prelude.{ℕ, ◌<◌, ◌≤◌, min, ⊤, IfSome, Bool, true, false, ◌==◌, if◌then◌else◌, List, [], ◌∷◌, ◌++◌, length, drop, Option, None}
+use Rattle.held_articles.specs.declared.article.Article.{Article}
 use Rattle.news_spool.specs.declared.link_state.Due.{Due}
 use Rattle.news_spool.specs.declared.link_state.Due.TheVariants as due
 use Rattle.news_spool.specs.declared.link_state.LinkState.{LinkState}
+use Rattle.news_spool.specs.declared.plan.SpoolServer.{SpoolServer}
 use Rattle.news_spool.specs.declared.talk.Phase.{Phase}
 use Rattle.news_spool.specs.declared.talk.Phase.TheVariants.{Commands, Head, Body, Over}
 use Rattle.news_spool.specs.declared.talk.Talk.{Talk}
+use Rattle.news_spool.specs.Lines.{is_whole, without_end}
 use Rattle.news_spool.specs.Pieces.{bounded, is_spent, left_of}
 use Rattle.news_spool.specs.Talk.{ended_talk, heard_line, new_talk}
 
@@ -32,30 +32,23 @@ ended link = record {
 abbrev pub with_line : List ℕ → Talk → LinkState → LinkState
 with_line line talk link = record { server = link.server; line = line; talk = talk; ends_in = link.ends_in; quiet_in = link.quiet_in }
 
--- the line ends with CRLF
-abbrev pub is_whole : List ℕ → Bool
-is_whole line = ends_with nat_eq line crlf
-
-abbrev pub without_end : List ℕ → List ℕ
-without_end line = take (length line - 2) line
-
 -- a line came, with its CRLF
-abbrev pub line_heard : Option (List ℕ × List ℕ) → List ℕ → List ℕ → LinkState × List Article → LinkState × List Article
-line_heard login date line heard =
-    let after = heard_line login date (without_end line) (heard.0.talk, heard.1) in
+abbrev pub line_heard : SpoolServer → List ℕ → List ℕ → LinkState × List Article → LinkState × List Article
+line_heard server date line heard =
+    let after = heard_line server date (without_end line) (heard.0.talk, heard.1) in
     (with_line [] after.0 heard.0, after.1)
 
--- a byte came, to a server with this login, whose articles have this date
-abbrev pub heard_byte : Option (List ℕ × List ℕ) → List ℕ → ℕ → LinkState × List Article → LinkState × List Article
-heard_byte login date byte heard =
+-- a byte came to a server, whose articles have this date
+abbrev pub heard_byte : SpoolServer → List ℕ → ℕ → LinkState × List Article → LinkState × List Article
+heard_byte server date byte heard =
     let line = heard.0.line ++ byte ∷ [] in
-    if is_whole line then line_heard login date line heard
+    if is_whole line then line_heard server date line heard
     else (with_line line heard.0.talk heard.0, heard.1)
 
 -- bytes came, one after the other
-abbrev pub heard_bytes : Option (List ℕ × List ℕ) → List ℕ → List ℕ → LinkState × List Article → LinkState × List Article
-heard_bytes login date [] heard = heard
-heard_bytes login date (byte ∷ bytes) heard = heard_bytes login date bytes (heard_byte login date byte heard)
+abbrev pub heard_bytes : SpoolServer → List ℕ → List ℕ → LinkState × List Article → LinkState × List Article
+heard_bytes server date [] heard = heard
+heard_bytes server date (byte ∷ bytes) heard = heard_bytes server date bytes (heard_byte server date byte heard)
 
 -- ---- received
 

@@ -1,11 +1,11 @@
 -- The links to servers in memory, and the articles of all servers, and what each call does to them.
-use Rattle.std.specs.Prelude.{◌≡◌, ℕ, ◌==◌, nat_lt, ⊤, Bool, List, [], ◌∷◌, ◌++◌, take, slice_get, slice_index_or, slice_set, Option, Some, None}
+use Rattle.std.specs.Prelude.{◌≡◌, ℕ, ◌==◌, nat_lt, ⊤, Bool, List, [], ◌∷◌, ◌++◌, take, slice_index_or, slice_set, Option, Some, None}
 use Rattle.std.specs.Option.{option_and_then, option_map}
 use Rattle.std.specs.List.{find, list_all, position}
 use Rattle.std.specs.Str.{bytes_eq}
 use Rattle.io_traits.specs.declared.links.Got.{Got}
 use Rattle.io_traits.specs.declared.links.Got.TheVariants as got
-use Rattle.news_spool.specs.declared.article.Article.{Article}
+use Rattle.held_articles.specs.declared.article.Article.{Article}
 use Rattle.news_spool.specs.declared.link_state.Due.{Due}
 use Rattle.news_spool.specs.declared.link_state.Due.TheVariants as due
 use Rattle.news_spool.specs.declared.link_state.LinkState.{LinkState}
@@ -53,15 +53,15 @@ after_end link links = slice_set links link (ended (state_at links link))
 
 -- ---- sent
 
--- the login that a server asks for
-abbrev pub login_of : List SpoolServer → ℕ → Option (List ℕ × List ℕ)
-login_of servers server = option_and_then (λ at. at.login) (slice_get servers server)
+-- a server; there is none at another place
+abbrev pub server_at : List SpoolServer → ℕ → SpoolServer
+server_at servers server = slice_index_or servers server (record { address = []; absent = []; login = None })
 
 -- bytes came on a link
 abbrev pub after_sent : SpoolPlan → ℕ → List ℕ → List LinkState × List Article → List LinkState × List Article
 after_sent plan link bytes held =
     let state = state_at held.0 link in
-    let heard = heard_bytes (login_of plan.servers state.server) plan.date bytes (state, held.1) in
+    let heard = heard_bytes (server_at plan.servers state.server) plan.date bytes (state, held.1) in
     (slice_set held.0 link heard.0, heard.1)
 
 -- ---- received

@@ -2,13 +2,14 @@
 use Rattle.std.specs.Prelude.{ℕ, Bool, nat_lt, if◌then◌else◌, List, [], ◌∷◌, ◌++◌, length, map, filter, sum_by, codes, decimal, unwrap_or, Option, Some, None}
 use Rattle.std.specs.List.{enumerate_from, join_with_byte}
 use Rattle.dot_blocks.specs.Blocks.{stuffed}
-use Rattle.news_spool.specs.declared.article.Article.{Article}
+use Rattle.held_articles.specs.declared.article.Article.{Article}
 use Rattle.news_spool.specs.declared.range.NumberRange.{NumberRange}
 use Rattle.news_spool.specs.declared.reply.Reply.TheVariants.{Follows, NoneChosen, NoneInRange}
 use Rattle.news_spool.specs.Answers.{reply_text}
-use Rattle.news_spool.specs.Fields.{field_of}
-use Rattle.news_spool.specs.Groups.{articles_in, in_group}
-use Rattle.news_spool.specs.Octets.{octets_of_line}
+use Rattle.held_articles.specs.Fields.{field_of}
+use Rattle.held_articles.specs.Articles.{in_group}
+use Rattle.news_spool.specs.Groups.{articles_in}
+use Rattle.held_articles.specs.Octets.{octets_of_line}
 use Rattle.news_spool.specs.Ranges.{is_within}
 
 -- ---- one article

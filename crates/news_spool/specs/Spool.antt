@@ -3,7 +3,7 @@ use Rattle.std.specs.Prelude.{◌≡◌, ℕ, Bool, List, Option}
 use Rattle.io_memory.specs.LinkLog.{log_events, log_live}
 use Rattle.io_traits.specs.declared.blame.Blame.{Blame}
 use Rattle.io_traits.specs.declared.links.LinkEvent.{LinkEvent}
-use Rattle.news_spool.specs.declared.article.Article.{Article}
+use Rattle.held_articles.specs.declared.article.Article.{Article}
 use Rattle.news_spool.specs.declared.link_state.LinkState.{LinkState}
 use Rattle.news_spool.specs.declared.plan.SpoolPlan.{SpoolPlan}
 use Rattle.news_spool.specs.declared.spool.Spool.{Spool}

@@ -2,16 +2,19 @@
 -- may be kept.
 use Rattle.std.specs.Prelude.{ℕ, Bool, true, false, ◌==◌, if◌then◌else◌, List, [], ◌∷◌, ◌++◌, length, Option, Some, None}
 use Rattle.dot_blocks.specs.BlockReading.{is_dot, unstuffed}
-use Rattle.news_spool.specs.declared.article.Article.{Article}
+use Rattle.held_articles.specs.declared.article.Article.{Article}
 use Rattle.news_spool.specs.declared.reply.Answer.{Answer}
-use Rattle.news_spool.specs.declared.reply.Answer.TheVariants.{Line, Group, Overview}
+use Rattle.news_spool.specs.declared.reply.Answer.TheVariants.{Line, Group, Overview, Body as TheBody, Stat}
 use Rattle.news_spool.specs.declared.reply.Reply.{Reply}
 use Rattle.news_spool.specs.declared.reply.Reply.TheVariants as reply
 use Rattle.news_spool.specs.declared.talk.Phase.{Phase}
 use Rattle.news_spool.specs.declared.talk.Phase.TheVariants.{Commands, Head, Body, Over}
 use Rattle.news_spool.specs.declared.talk.Talk.{Talk}
 use Rattle.news_spool.specs.Answers.{answer_to, group_word, login_word, reply_text}
-use Rattle.news_spool.specs.Articles.{article_of, is_known}
+use Rattle.held_articles.specs.Articles.{article_of, is_known}
+use Rattle.held_articles.specs.ById.{present_article}
+use Rattle.news_spool.specs.declared.plan.SpoolServer.{SpoolServer}
+use Rattle.news_spool.specs.Bodies.{body_reply, stat_reply}
 use Rattle.news_spool.specs.Groups.{chosen_after, group_count, group_reply}
 use Rattle.news_spool.specs.Overview.{over_reply}
 
@@ -77,16 +80,18 @@ after_group name articles talk = record {
   owed = talk.owed ++ group_reply name articles;
 }
 
--- what an answer leaves, over these articles, each of which has this date
-abbrev pub answered : Answer → List ℕ → List ℕ → List Article → Talk → Talk
-answered (Line reply) line date articles talk = after_reply reply line talk
-answered Group line date articles talk = after_group (group_word line) articles talk
-answered (Overview range) line date articles talk = saying (over_reply talk.group range date articles) talk
+-- what an answer leaves, over these articles, each of which has this date, from a server that lacks those with the numbers `absent`
+abbrev pub answered : Answer → List ℕ → List ℕ → List ℕ → List Article → Talk → Talk
+answered (Line reply) line absent date articles talk = after_reply reply line talk
+answered Group line absent date articles talk = after_group (group_word line) articles talk
+answered (Overview range) line absent date articles talk = saying (over_reply talk.group range date articles) talk
+answered (TheBody id) line absent date articles talk = saying (body_reply (present_article id absent articles)) talk
+answered (Stat id) line absent date articles talk = saying (stat_reply (present_article id absent articles)) talk
 
--- a command came, to a server with this login
-abbrev pub heard_command : Option (List ℕ × List ℕ) → List ℕ → List ℕ → List Article → Talk → Talk
-heard_command login date line articles talk =
-    answered (answer_to login talk.logged_in talk.name line) line date articles (in_phase Commands talk)
+-- a command came to a server
+abbrev pub heard_command : SpoolServer → List ℕ → List ℕ → List Article → Talk → Talk
+heard_command server date line articles talk =
+    answered (answer_to server.login talk.logged_in talk.name line) line server.absent date articles (in_phase Commands talk)
 
 -- ---- articles
 
@@ -118,12 +123,12 @@ heard_body head body line heard =
 
 -- ---- lines
 
-abbrev pub heard_in : Phase → Option (List ℕ × List ℕ) → List ℕ → List ℕ → Talk × List Article → Talk × List Article
-heard_in Commands login date line heard = (heard_command login date line heard.1 heard.0, heard.1)
-heard_in (Head head) login date line heard = (heard_head head line heard.0, heard.1)
-heard_in (Body head body) login date line heard = heard_body head body line heard
-heard_in Over login date line heard = heard
+abbrev pub heard_in : Phase → SpoolServer → List ℕ → List ℕ → Talk × List Article → Talk × List Article
+heard_in Commands server date line heard = (heard_command server date line heard.1 heard.0, heard.1)
+heard_in (Head head) server date line heard = (heard_head head line heard.0, heard.1)
+heard_in (Body head body) server date line heard = heard_body head body line heard
+heard_in Over server date line heard = heard
 
 -- a line came, without its CRLF
-abbrev pub heard_line : Option (List ℕ × List ℕ) → List ℕ → List ℕ → Talk × List Article → Talk × List Article
-heard_line login date line heard = heard_in heard.0.phase login date line heard
+abbrev pub heard_line : SpoolServer → List ℕ → List ℕ → Talk × List Article → Talk × List Article
+heard_line server date line heard = heard_in heard.0.phase server date line heard

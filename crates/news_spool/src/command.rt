@@ -1,10 +1,12 @@
 // Commands as a server in memory hears them. Keywords are read in upper case alone.
 ghost use Rattle.std.specs.Prelude.{◌≡◌, ◌≢◌, ◌≤◌, length};
-ghost use Rattle.news_spool.specs.Answers.{answer_to, is_authinfo, login_reply, over_answer, pass_reply};
+ghost use Rattle.news_spool.specs.Answers.{answer_to, article_answer, body_answer, is_authinfo, login_reply, over_answer, pass_reply, stat_answer};
 
 use crate::range::NumberRange;
 use crate::reply::{Answer, Reply};
+use held_articles::id_in;
 use lists::Bytes;
+use nntp_lines::MessageId;
 
 // The greatest length of a command in bytes, without its CRLF (RFC 3977, 3.1).
 const MOST: usize = 510;
@@ -48,6 +50,44 @@ pub(crate) fn answer_to(
     }
     match line.strip_prefix(b"OVER ") {
         Some(range) => over_answer(NumberRange::from_text(range)),
+        None => article_answer(line),
+    }
+}
+
+// The answer to a command that asks for an article by its message-id, and to one that the server doesn't know.
+#[tactic(auto, unfolding(crate::specs::Answers::article_answer))]
+fn article_answer(line: &[u8]) -> Answer
+    ensures answer { result ≡ article_answer line.now }
+    ensures login_word { result ≢ Answer.Line Reply.PassNext }
+    ensures group_word { result ≢ Answer.Group }
+{
+    if let Some(word) = line.strip_prefix(b"BODY ") {
+        return body_answer(id_in(word));
+    }
+    match line.strip_prefix(b"STAT ") {
+        Some(word) => stat_answer(id_in(word)),
+        None => Answer::Line(Reply::What),
+    }
+}
+
+fn body_answer(id: Option<MessageId>) -> Answer
+    ensures answer { result ≡ body_answer id }
+    ensures login_word { result ≢ Answer.Line Reply.PassNext }
+    ensures group_word { result ≢ Answer.Group }
+{
+    match id {
+        Some(id) => Answer::Body(id),
+        None => Answer::Line(Reply::What),
+    }
+}
+
+fn stat_answer(id: Option<MessageId>) -> Answer
+    ensures answer { result ≡ stat_answer id }
+    ensures login_word { result ≢ Answer.Line Reply.PassNext }
+    ensures group_word { result ≢ Answer.Group }
+{
+    match id {
+        Some(id) => Answer::Stat(id),
         None => Answer::Line(Reply::What),
     }
 }

@@ -2,8 +2,8 @@
 ghost use Rattle.std.specs.Prelude.{◌≡◌, ◌<◌, ◌+◌, ◌++◌, IfSome, OnOk};
 ghost use Rattle.news_spool.specs.Groups.{CountsBelow, group_count, group_line, with_number};
 
-use crate::article::Article;
 use crate::owed::Owed;
+use held_articles::Article;
 use lists::Memory;
 use nntp_lines::GroupReply;
 

@@ -2,13 +2,13 @@
 //! hold, for tests and for a rehearsal.
 #![tactic(auto)]
 
-mod article;
+mod body;
 mod command;
 mod count;
 mod error;
-mod field;
 mod group;
 mod laws;
+mod line;
 mod link_state;
 mod overview;
 mod owed;

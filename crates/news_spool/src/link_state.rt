@@ -2,10 +2,12 @@
 ghost use Rattle.std.specs.Prelude.{◌≡◌, ◌≤◌, ◌<◌, length, take, IfOk, OnOk, IfSome, MatchOption};
 ghost use Rattle.news_spool.specs.Pieces.{left_of};
 
-use crate::article::Article;
+use crate::line::BegunLine;
 use crate::pieces::{bounded, is_spent, left_of};
+use crate::plan::SpoolServer;
 use crate::talk::{Phase, Talk};
-use lists::{Bytes, List, Memory};
+use held_articles::HeldArticles;
+use lists::Memory;
 use std::alloc::Global;
 
 /// What is due to a receive.
@@ -25,7 +27,7 @@ pub(crate) struct LinkState {
     /// Which of the servers.
     pub(crate) server: usize,
     /// What has come of the next line.
-    line: Bytes,
+    line: BegunLine,
     /// What the lines before it have come to.
     talk: Talk,
     /// How many bytes it gives before its end, where that is set.
@@ -50,7 +52,7 @@ impl LinkState {
         match Talk::new(alloc) {
             Ok(talk) => Ok(LinkState {
                 server,
-                line: Bytes::new(alloc),
+                line: BegunLine::new(alloc),
                 talk,
                 ends_in,
                 quiet_in,
@@ -59,22 +61,21 @@ impl LinkState {
         }
     }
 
-    // Hears bytes, to a server with this login, whose articles have this date. Where memory runs out, articles may have been
-    // kept.
+    // Hears bytes, to a server whose articles have this date. Where memory runs out, articles may have been kept.
     pub(crate) fn hear(
         &mut self,
         alloc: Global,
-        login: &Option<(Bytes, Bytes)>,
+        server: &SpoolServer,
         date: &[u8],
         bytes: &[u8],
-        articles: &mut List<Article>,
+        articles: &mut HeldArticles,
     ) -> Result<(), Memory>
-        ensures ok { OnOk result ((self.new, articles.new) ≡ heard_bytes login.now date.now bytes.now (self.old, articles.old)) }
+        ensures ok { OnOk result ((self.new, articles.new) ≡ heard_bytes server.now date.now bytes.now (self.old, articles.old)) }
         ensures kept { take (length articles.old) articles.new ≡ articles.old }
         ensures server { self.new.server ≡ self.old.server }
     {
         for byte in bytes {
-            self.hear_byte(alloc, login, date, *byte, articles)?;
+            self.hear_byte(alloc, server, date, *byte, articles)?;
         }
         Ok(())
     }
@@ -82,23 +83,20 @@ impl LinkState {
     fn hear_byte(
         &mut self,
         alloc: Global,
-        login: &Option<(Bytes, Bytes)>,
+        server: &SpoolServer,
         date: &[u8],
         byte: u8,
-        articles: &mut List<Article>,
+        articles: &mut HeldArticles,
     ) -> Result<(), Memory>
-        ensures ok { OnOk result ((self.new, articles.new) ≡ heard_byte login.now date.now byte (self.old, articles.old)) }
+        ensures ok { OnOk result ((self.new, articles.new) ≡ heard_byte server.now date.now byte (self.old, articles.old)) }
         ensures kept { take (length articles.old) articles.new ≡ articles.old }
         ensures server { self.new.server ≡ self.old.server }
     {
-        self.line.push(byte)?;
-        if !self.line.as_slice().ends_with(b"\r\n") {
+        if !self.line.push(byte)? {
             return Ok(());
         }
-        let end = self.line.len() - 2;
-        self.line.truncate(end);
         self.talk
-            .hear_line(alloc, login, date, self.line.as_slice(), articles)?;
+            .hear_line(alloc, server, date, self.line.as_slice(), articles)?;
         self.line.clear();
         Ok(())
     }
@@ -150,7 +148,7 @@ impl LinkState {
     pub(crate) fn end(&mut self, alloc: Global)
         ensures { self.new ≡ ended self.old }
     {
-        self.line = Bytes::new(alloc);
+        self.line = BegunLine::new(alloc);
         self.talk = Talk::ended(alloc);
         self.ends_in = None;
         self.quiet_in = None;

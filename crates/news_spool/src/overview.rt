@@ -2,14 +2,13 @@
 ghost use Rattle.std.specs.Prelude.{◌≡◌, ◌≤◌, ◌<◌, ◌+◌, ◌^◌, [], ◌∷◌, ◌++◌, length, position, OnOk};
 ghost use Rattle.std.specs.List.{position_or_len};
 ghost use Rattle.dot_blocks.specs.Blocks.{stuffed};
-ghost use Rattle.news_spool.specs.Groups.{in_group};
+ghost use Rattle.held_articles.specs.Articles.{in_group};
 ghost use Rattle.news_spool.specs.Overview.{field_text, is_control, lines_reply, overview_of, overviews, overviews_from, spaced};
 
-use crate::article::Article;
-use crate::field::field_of;
 use crate::owed::Owed;
 use crate::range::NumberRange;
 use crate::reply::Reply;
+use held_articles::{Article, field_of};
 use lists::{Lines, Memory};
 
 // Appends the overview of the articles of a newsgroup that are in a range, or says that there are none.
@@ -86,7 +85,7 @@ fn append_overview(
     out.extend(b">\t\t")?;
     out.extend_number(octets)?;
     out.extend(b"\t")?;
-    out.extend_number(article.body.len() as u64)?;
+    out.extend_number(article.body.as_lines().len() as u64)?;
     Ok(())
 }
 

@@ -1,8 +1,10 @@
 // Bytes that are to be given, of which the first ones may have been.
 ghost use Rattle.std.specs.Prelude.{◌≡◌, ◌≤◌, [], ◌++◌, length, take, drop, decimal, OnOk, OnErr, IsTrue, ◌↔◌};
+ghost use Rattle.dot_blocks.specs.Blocks.{stuffed};
 ghost use Rattle.news_spool.specs.Answers.{reply_text};
 
 use crate::reply::Reply;
+use held_articles::BlockLines;
 use lists::{Bytes, Memory};
 use numbers::write_dec;
 use std::alloc::Global;
@@ -58,6 +60,13 @@ impl Owed {
         let mut digits = [0; 20];
         let len = write_dec(number, &mut digits);
         self.extend(&digits[..len])
+    }
+
+    // Appends the block of these lines.
+    pub(crate) fn extend_block(&mut self, lines: &BlockLines) -> Result<(), Memory>
+        ensures { OnOk result (self.new ≡ self.old ++ stuffed lines.now) }
+    {
+        lines.stuff(&mut self.bytes)
     }
 
     // Appends a reply of one line.

@@ -20,7 +20,7 @@ pub struct SpoolPlan {
 pub struct SpoolServer {
     /// Its address.
     pub address: Bytes,
-    /// The numbers of the articles whose bodies it lacks.
+    /// The numbers of the articles that BODY and STAT find missing on it.
     pub absent: List<u64>,
     /// The name and the password of the login that it asks for, if it does.
     pub login: Option<(Bytes, Bytes)>,

@@ -2,10 +2,8 @@
 ghost use Rattle.std.specs.Prelude.{◌≡◌, ◌==◌, ◌≤◌, length};
 ghost use Rattle.std.specs.List.{position_or_len};
 
+use limits::MOST_ARTICLE;
 use numbers::read_dec;
-
-// The greatest number of an article (RFC 3977, 9.8).
-const MOST: u64 = 9_999_999_999_999_999;
 
 /// The numbers of articles from one to another. There are none where the last is below the first.
 #[derive(Clone, Copy, Debug, PartialEq, Eq)]
@@ -29,11 +27,11 @@ impl NumberRange {
         if hyphen >= text.len() {
             return None;
         }
-        let first = match read_dec(&text[..hyphen], MOST) {
+        let first = match read_dec(&text[..hyphen], MOST_ARTICLE) {
             Some(first) => first,
             None => return None,
         };
-        match read_dec(&text[hyphen + 1..], MOST) {
+        match read_dec(&text[hyphen + 1..], MOST_ARTICLE) {
             Some(last) => Some(NumberRange { first, last }),
             None => None,
         }

@@ -3,9 +3,10 @@ ghost use Rattle.std.specs.Prelude.{◌≡◌};
 ghost use Rattle.news_spool.specs.Answers.{reply_line};
 
 use crate::range::NumberRange;
+use nntp_lines::MessageId;
 
 /// What a command is answered.
-#[derive(Clone, Copy, Debug, PartialEq, Eq)]
+#[derive(Debug, Drop)]
 pub(crate) enum Answer {
     /// This line, whatever the articles are.
     Line(Reply),
@@ -13,6 +14,10 @@ pub(crate) enum Answer {
     Group,
     /// The overview of the articles with these numbers (RFC 3977, 8.3).
     Overview(NumberRange),
+    /// The body of the article with this message-id (RFC 3977, 6.2.3).
+    Body(MessageId),
+    /// Whether there is an article with this message-id (RFC 3977, 6.2.4).
+    Stat(MessageId),
 }
 
 /// What a server says, a status line each (RFC 3977, and RFC 4643 for the login).
@@ -32,6 +37,8 @@ pub(crate) enum Reply {
     NoneChosen,
     /// No article of the newsgroup is in the range.
     NoneInRange,
+    /// No article has the message-id that is given (RFC 3977, 6.2.3), or the server lacks it.
+    NoneWithId,
     /// The overview follows.
     Follows,
     /// The session ends (RFC 3977, 5.4).
@@ -48,7 +55,7 @@ pub(crate) enum Reply {
     WrongLogin,
     /// The server knows no login.
     NoLogin,
-    /// The command is none that the server knows.
+    /// The command is none that the server knows, or isn't followed by what it asks for.
     What,
 }
 
@@ -65,6 +72,7 @@ impl Reply {
             Reply::NotInGroup => b"411 none",
             Reply::NoneChosen => b"412 no group",
             Reply::NoneInRange => b"423 none",
+            Reply::NoneWithId => b"430 none",
             Reply::Follows => b"224 follows",
             Reply::Bye => b"205 bye",
             Reply::LoginFirst => b"480 login",

@@ -5,16 +5,16 @@ ghost use Rattle.io_traits.specs.Causes.{HasCause, BlamesNamed, Rose, blame_afte
 ghost use Rattle.io_memory.specs.LinkLog.{log_events, log_live};
 ghost use Rattle.io_traits.specs.Links.{tell, opened_events, sent_events, heard_events, live_after_open, live_after_send, live_after_receive, GotFits, GotHasCause, blame_after_receive};
 ghost use Rattle.io_memory.specs.Script.{OnFailed, UnlessFailed};
-ghost use Rattle.news_spool.specs.Links.{GivesOwed, OpensLink, after_end, after_receive, after_sent, are_served, due_at, ends_after, entry_of, got_of, login_of, quiet_after, server_of, state_at};
+ghost use Rattle.news_spool.specs.Links.{GivesOwed, OpensLink, after_end, after_receive, after_sent, are_served, due_at, ends_after, entry_of, got_of, quiet_after, server_at, server_of, state_at};
 ghost use Rattle.news_spool.specs.LinkState.{CanGive, DueFits, given};
 ghost use Rattle.news_spool.specs.Pieces.{next_turn};
 
 use crate::SpoolError;
-use crate::article::Article;
 use crate::count::{opening, raised};
 use crate::link_state::{Due, LinkState};
 use crate::pieces::{next_turn, piece_at};
 use crate::plan::{SpoolLink, SpoolPlan, SpoolServer};
+use held_articles::{Article, BlockLines, HeldArticles};
 use io_memory::LinkLog;
 use io_traits::{Blame, Failed, Got, LinkEvent, Links};
 use lists::{Bytes, Lines, List, Memory};
@@ -26,7 +26,7 @@ use std::alloc::Global;
 #[derive(Drop)]
 pub struct Spool {
     plan: SpoolPlan,
-    articles: List<Article>,
+    articles: HeldArticles,
     links: Vec<LinkState>,
     turn: usize,
     log: LinkLog,
@@ -37,7 +37,7 @@ pub struct Spool {
 }
 
 impl Spool {
-    ghost use Rattle.news_spool.specs.Articles.{is_known, new_article};
+    ghost use Rattle.held_articles.specs.Articles.{is_known, new_article};
     ghost use Rattle.news_spool.specs.History.{GoesOnBy, HasHistory, added};
     ghost use Rattle.news_spool.specs.Spool.{KeepsLinks, KeepsOutside, spool_articles, spool_blame, spool_events, spool_faults, spool_held, spool_links, spool_live, spool_plan, spool_turn};
     ghost use Rattle.io_traits.specs.declared.links.LinkEvent.TheVariants.{Ended, Sent};
@@ -58,7 +58,7 @@ impl Spool {
     {
         Ok(Spool {
             plan,
-            articles: List::new(alloc),
+            articles: HeldArticles::new(alloc),
             links: Vec::new(alloc),
             turn: 0,
             log: LinkLog::new(alloc),
@@ -99,7 +99,7 @@ impl Spool {
         ensures links { KeepsLinks self.old self.new }
         ensures history { OnOk result (GoesOnBy self.old self.new (added (new_article id group head body) ∷ [])) }
     {
-        if Article::is_known(&id, self.articles.as_slice()) {
+        if self.articles.is_known(&id) {
             return Err(SpoolError::Known);
         }
         let mut newsgroups = Bytes::new(self.log.alloc());
@@ -110,11 +110,11 @@ impl Spool {
             id,
             newsgroups,
             head,
-            body,
+            body: BlockLines::from_lines(body),
         };
-        match self.articles.push(article) {
+        match self.articles.add(article) {
             Ok(()) => Ok(()),
-            Err(Memory) => Err(SpoolError::Memory),
+            Err(_) => Err(SpoolError::Memory),
         }
     }
 
@@ -165,9 +165,9 @@ impl Spool {
     {
         let alloc = self.log.alloc();
         let state = &mut self.links[link as usize];
-        let login = login_of(self.plan.servers.as_slice(), state.server);
+        let server = server_at(self.plan.servers.as_slice(), state.server);
         let date = self.plan.date.as_slice();
-        state.hear(alloc, login, date, bytes, &mut self.articles)
+        state.hear(alloc, server, date, bytes, &mut self.articles)
     }
 
     // Hears bytes on a link, and tells them. Where memory runs out, articles may have been kept.
@@ -287,13 +287,13 @@ fn server_of(servers: &[SpoolServer], address: &[u8]) -> Option<usize>
         .position(|server| server.address.as_slice() == address)
 }
 
-// The login that a server asks for.
-#[tactic(auto, using(crate::proofs::LinkLaws::login_is))]
-fn login_of(servers: &[SpoolServer], server: usize) -> &Option<(Bytes, Bytes)>
+// A server.
+#[tactic(auto, using(crate::proofs::LinkLaws::server_is))]
+fn server_at(servers: &[SpoolServer], server: usize) -> &SpoolServer
     requires { server < length servers.now }
-    ensures { result.now ≡ login_of servers.now server }
+    ensures { result.now ≡ server_at servers.now server }
 {
-    &servers[server].login
+    &servers[server]
 }
 
 // The first entry for the link of this number.

@@ -1,15 +1,19 @@
 // What is said on one link, line by line.
 ghost use Rattle.std.specs.Prelude.{◌≡◌, ◌≤◌, [], ◌++◌, length, take, IfOk, OnOk, false, None};
 ghost use Rattle.dot_blocks.specs.BlockReading.{is_dot, unstuffed};
+ghost use Rattle.dot_blocks.specs.Blocks.{HoldsNoLineEnd};
 
-use crate::article::Article;
+use crate::body::{append_body, append_stat};
 use crate::command::{GROUP_WORD, LOGIN_WORD, answer_to};
 use crate::group::{append_group, count_group};
 use crate::overview::append_overviews;
 use crate::owed::Owed;
+use crate::plan::SpoolServer;
 use crate::range::NumberRange;
 use crate::reply::{Answer, Reply};
-use lists::{Bytes, Lines, List, Memory};
+use held_articles::{AddError, Article, BlockLines, HeldArticles};
+use lists::{Bytes, Lines, Memory};
+use nntp_lines::MessageId;
 use std::alloc::Global;
 use std::mem;
 
@@ -21,7 +25,7 @@ pub(crate) enum Phase {
     /// A line of an article's head, of which these came.
     Head(Lines),
     /// A line of its body, behind this head and these lines.
-    Body(Lines, Lines),
+    Body(Lines, BlockLines),
     /// Nothing that is heard: the session has ended.
     Over,
 }
@@ -42,6 +46,8 @@ pub(crate) struct Talk {
 }
 
 impl Talk {
+    ghost use Rattle.held_articles.specs.ById.{present_article};
+    ghost use Rattle.news_spool.specs.Bodies.{body_reply, stat_reply};
     ghost use Rattle.news_spool.specs.Overview.{over_reply};
     ghost use Rattle.news_spool.specs.Talk.{after_group, after_reply, answered, articles_after, article_reply, ended_talk, heard_body, heard_command, heard_head, heard_line, in_phase, judged, new_talk, owing, saying};
 
@@ -75,21 +81,22 @@ impl Talk {
         }
     }
 
-    // Hears a line without its CRLF, to a server with this login, whose articles have this date. Where memory runs out, an
-    // article may have been kept.
+    // Hears a line without its CRLF, to a server whose articles have this date. Where memory runs out, an article may have been
+    // kept.
     pub(crate) fn hear_line(
         &mut self,
         alloc: Global,
-        login: &Option<(Bytes, Bytes)>,
+        server: &SpoolServer,
         date: &[u8],
         line: &[u8],
-        articles: &mut List<Article>,
+        articles: &mut HeldArticles,
     ) -> Result<(), Memory>
-        ensures ok { OnOk result ((self.new, articles.new) ≡ heard_line login.now date.now line.now (self.old, articles.old)) }
+        requires { HoldsNoLineEnd line.now }
+        ensures ok { OnOk result ((self.new, articles.new) ≡ heard_line server.now date.now line.now (self.old, articles.old)) }
         ensures kept { take (length articles.old) articles.new ≡ articles.old }
     {
         match mem::replace(&mut self.phase, Phase::Over) {
-            Phase::Commands => self.hear_command(alloc, login, date, line, articles.as_slice()),
+            Phase::Commands => self.hear_command(alloc, server, date, line, articles),
             Phase::Head(head) => self.hear_head(alloc, head, line),
             Phase::Body(head, body) => self.hear_body(alloc, head, body, line, articles),
             Phase::Over => Ok(()),
@@ -99,18 +106,21 @@ impl Talk {
     fn hear_command(
         &mut self,
         alloc: Global,
-        login: &Option<(Bytes, Bytes)>,
+        server: &SpoolServer,
         date: &[u8],
         line: &[u8],
-        articles: &[Article],
+        articles: &HeldArticles,
     ) -> Result<(), Memory>
-        ensures { OnOk result (self.new ≡ heard_command login.now date.now line.now articles.now self.old) }
+        ensures { OnOk result (self.new ≡ heard_command server.now date.now line.now articles.now self.old) }
     {
         self.phase = Phase::Commands;
-        match answer_to(login, self.logged_in, &self.name, line) {
+        let absent = server.absent.as_slice();
+        match answer_to(&server.login, self.logged_in, &self.name, line) {
             Answer::Line(reply) => self.answer(alloc, reply, line),
-            Answer::Group => self.choose(alloc, line.split_at(GROUP_WORD).1, articles),
-            Answer::Overview(range) => self.say_overviews(range, date, articles),
+            Answer::Group => self.choose(alloc, line.split_at(GROUP_WORD).1, articles.as_slice()),
+            Answer::Overview(range) => self.say_overviews(range, date, articles.as_slice()),
+            Answer::Body(id) => self.say_body(&id, absent, articles),
+            Answer::Stat(id) => self.say_stat(&id, absent, articles),
         }
     }
 
@@ -176,6 +186,30 @@ impl Talk {
         }
     }
 
+    // Owes the body of the article with a message-id, from a server that lacks those with these numbers.
+    fn say_body(
+        &mut self,
+        id: &MessageId,
+        absent: &[u64],
+        articles: &HeldArticles,
+    ) -> Result<(), Memory>
+        ensures { OnOk result (self.new ≡ saying (body_reply (present_article id.now absent.now articles.now)) self.old) }
+    {
+        append_body(articles.present(id, absent), &mut self.owed)
+    }
+
+    // Owes whether there is such an article.
+    fn say_stat(
+        &mut self,
+        id: &MessageId,
+        absent: &[u64],
+        articles: &HeldArticles,
+    ) -> Result<(), Memory>
+        ensures { OnOk result (self.new ≡ saying (stat_reply (present_article id.now absent.now articles.now)) self.old) }
+    {
+        append_stat(articles.present(id, absent), &mut self.owed)
+    }
+
     fn hear_head(&mut self, alloc: Global, mut head: Lines, line: &[u8]) -> Result<(), Memory>
         ensures { OnOk result (self.new ≡ heard_head head line.now self.old) }
     {
@@ -184,7 +218,7 @@ impl Talk {
             return self.say(Reply::Refused);
         }
         if line.is_empty() {
-            self.phase = Phase::Body(head, Lines::new(alloc));
+            self.phase = Phase::Body(head, BlockLines::new(alloc));
             return Ok(());
         }
         head.push(unstuffed(line))?;
@@ -196,10 +230,11 @@ impl Talk {
         &mut self,
         alloc: Global,
         head: Lines,
-        mut body: Lines,
+        mut body: BlockLines,
         line: &[u8],
-        articles: &mut List<Article>,
+        articles: &mut HeldArticles,
     ) -> Result<(), Memory>
+        requires { HoldsNoLineEnd line.now }
         ensures ok { OnOk result ((self.new, articles.new) ≡ heard_body head body line.now (self.old, articles.old)) }
         ensures kept { take (length articles.old) articles.new ≡ articles.old }
     {
@@ -213,24 +248,18 @@ impl Talk {
     }
 
     // Keeps what was posted where it is an article that isn't known, and says so.
-    fn judge(
-        &mut self,
-        article: Option<Article>,
-        articles: &mut List<Article>,
-    ) -> Result<(), Memory>
+    fn judge(&mut self, article: Option<Article>, articles: &mut HeldArticles) -> Result<(), Memory>
         ensures ok { OnOk result ((self.new, articles.new) ≡ judged article (self.old, articles.old)) }
         ensures kept { take (length articles.old) articles.new ≡ articles.old }
     {
         self.phase = Phase::Commands;
         match article {
             None => self.say(Reply::Refused),
-            Some(article) => {
-                if Article::is_known(&article.id, articles.as_slice()) {
-                    return self.say(Reply::Refused);
-                }
-                articles.push(article)?;
-                self.say(Reply::Posted)
-            }
+            Some(article) => match articles.add(article) {
+                Ok(()) => self.say(Reply::Posted),
+                Err(AddError::Known) => self.say(Reply::Refused),
+                Err(AddError::Memory) => Err(Memory),
+            },
         }
     }
 
@@ -253,8 +282,10 @@ fn is_dot(line: &[u8]) -> bool
 }
 
 // A line without the dot at its front, if it has one.
+#[tactic(auto, using(crate::proofs::LineEnds::none_unstuffed))]
 fn unstuffed(line: &[u8]) -> &[u8]
-    ensures { result.now ≡ unstuffed line.now }
+    ensures line { result.now ≡ unstuffed line.now }
+    ensures rule { HoldsNoLineEnd line.now → HoldsNoLineEnd result.now }
 {
     match line.strip_prefix(b".") {
         Some(rest) => rest,

@@ -8,6 +8,7 @@ use Rattle.nntp_lines.specs.LoginWord.{IsLoginWord}
 use Rattle.nntp_lines.specs.MessageId.{IsMessageId}
 use Rattle.nntp_lines.specs.declared.command.Command.{Command}
 use Rattle.nntp_lines.specs.declared.command.Command.TheVariants.{Body, Stat, Group, Over, Post, Quit, User, Pass}
+use Rattle.limits.specs.declared.TheConstants.{MOST_ARTICLE}
 
 -- ---- the text of each command, without its CRLF
 
@@ -65,7 +66,7 @@ command_text command = command_line command ++ crlf
 
 -- the number of an article: at most 16 digits (RFC 3977, 9.8, "article-number")
 abbrev pub IsArticleNumber : ℕ → Type 0
-IsArticleNumber number = number ≤ 9999999999999999
+IsArticleNumber number = number ≤ MOST_ARTICLE
 
 -- the numbers in a command are those of articles
 abbrev pub HasArticleNumbers : Command → Type 0

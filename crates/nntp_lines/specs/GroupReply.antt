@@ -3,10 +3,11 @@ use Rattle.std.specs.Prelude.{◌≡◌, ℕ, ◌+◌, ◌==◌, nat_eq, nat_lt,
 use Rattle.std.specs.List.{position_or_len, starts_with}
 use Rattle.numbers.specs.Numbers.{decimal_of, within, Numbered, numbered_of}
 use Rattle.nntp_lines.specs.declared.group.GroupReply.{GroupReply}
+use Rattle.limits.specs.declared.TheConstants.{MOST_ARTICLE}
 
 -- a number of articles, or of an article; this program takes numbers of up to 16 digits, RFC 3977, 6, asks for ten
 abbrev pub number_of : List ℕ → Option ℕ
-number_of digits = within 0 9999999999999999 (decimal_of digits)
+number_of digits = within 0 MOST_ARTICLE (decimal_of digits)
 
 -- the line without its CRLF, and its three numbers, with a space (32) behind each; the name behind them isn't read
 pub record IsGroupLine (line : List ℕ) (reply : GroupReply) : Type 0 where

@@ -3,10 +3,8 @@ ghost use Rattle.std.specs.Prelude.{◌≡◌, ◌==◌, ◌≤◌, length, IfSo
 ghost use Rattle.std.specs.List.{position_or_len};
 ghost use Rattle.nntp_lines.specs.GroupReply.{IsGroupLine, group_of, numbered};
 
+use limits::MOST_ARTICLE;
 use numbers::read_dec;
-
-// The greatest number of an article, and of articles.
-const MOST: u64 = 9_999_999_999_999_999;
 
 /// What a server says of a newsgroup that was chosen (RFC 3977, 6.1.1).
 #[derive(Clone, Copy, Debug, PartialEq, Eq)]
@@ -19,7 +17,7 @@ pub struct GroupReply {
     pub high: u64,
 }
 
-/// Reads a status line that answers `GROUP`, without its CRLF: `211`, three decimal numbers up to 9,999,999,999,999,999, each
+/// Reads a status line that answers `GROUP`, without its CRLF: `211`, three decimal numbers up to `MOST_ARTICLE`, each
 /// between two spaces, and a name, which isn't read (RFC 3977, 6.1.1). `None` for any other line.
 #[tactic(auto, using(crate::proofs::GroupLaws::read_is_line))]
 pub fn read_group(line: &[u8]) -> Option<GroupReply>
@@ -51,7 +49,7 @@ fn numbered(text: &[u8]) -> Option<(u64, &[u8])>
     if end >= text.len() {
         return None;
     }
-    match read_dec(&text[..end], MOST) {
+    match read_dec(&text[..end], MOST_ARTICLE) {
         Some(number) => Some((number, &text[end + 1..])),
         None => None,
     }

@@ -5,10 +5,11 @@ use Rattle.std.specs.List.{list_any}
 use Rattle.std.proofs.lemmas.Bool.{cases_Bool, or_from}
 use Rattle.std.proofs.lemmas.Slice.Eq.{bytes_eq-Decides}
 use Rattle.numbers.specs.Numbers.{decimal_of, within, or_zero}
-use Rattle.nzb_index.specs.Markup.{Attribute, AreAttributes, AttributeChecks, attribute, has_attribute, or_nothing, number_of}
-use Rattle.nzb_index.specs.Nzb.{segment_checks, file_checks, IsSegment, IsFile}
-use Rattle.nzb_index.specs.declared.index.Segment.{Segment}
-use Rattle.nzb_index.specs.declared.index.FileEntry.{FileEntry}
+use Rattle.nzb_writer.specs.Markup.{Attribute, AreAttributes, AttributeChecks, attribute, has_attribute, or_nothing, number_of}
+use Rattle.nzb_writer.specs.Nzb.{segment_checks, file_checks, IsSegment, IsFile}
+use Rattle.nzb_writer.specs.declared.index.Segment.{Segment}
+use Rattle.nzb_writer.specs.declared.index.FileEntry.{FileEntry}
+use Rattle.limits.specs.declared.TheConstants.{MOST_OCTETS, LAST_MOMENT}
 
 -- no two of them have one name
 abbrev pub HaveDifferentNames : List Attribute → Type 0
@@ -76,11 +77,11 @@ number_or_none checks name text attributes high are c = go (attribute name attri
 
 -- a segment's number stands in its tag and is in its range, and so is its count of bytes where it stands
 pub segment_numbers : (text : List ℕ) (s : Segment) → IsSegment text s → (attributes : List Attribute) × ((value : List ℕ) × (attribute (codes "number") attributes ≡ Some value) × (within 1 4294967295 (decimal_of value) ≡ Some s.number))
-    × IsNumberOrNone (attribute (codes "bytes") attributes) 999999999999 s.bytes
+    × IsNumberOrNone (attribute (codes "bytes") attributes) MOST_OCTETS s.bytes
 segment_numbers text s (attributes, inside, is, has, number, bytes, id, good) = (
   attributes,
   go (attribute (codes "number") attributes) refl (there (codes "number") attributes has),
-  rw bytes (number_or_none segment_checks (codes "bytes") is.attribute_text attributes 999999999999 is.are_attributes (λ value. refl)),
+  rw bytes (number_or_none segment_checks (codes "bytes") is.attribute_text attributes MOST_OCTETS is.are_attributes (λ value. refl)),
 )
   where
     there : (name : List ℕ) (rest : List Attribute) → has_attribute name rest ≡ true → is_some (attribute name rest) ≡ true
@@ -97,5 +98,5 @@ segment_numbers text s (attributes, inside, is, has, number, bytes, id, good) = 
     )
 
 -- a file's date is in its range, where it stands
-pub file_date : (text : List ℕ) (f : FileEntry) → IsFile text f → (attributes : List Attribute) × IsNumberOrNone (attribute (codes "date") attributes) 999999999999 f.date
-file_date text f (attributes, inside, parts, is, are, poster, subject, date, gs, ss) = (attributes, rw date (number_or_none file_checks (codes "date") is.attribute_text attributes 999999999999 is.are_attributes (λ value. refl)))
+pub file_date : (text : List ℕ) (f : FileEntry) → IsFile text f → (attributes : List Attribute) × IsNumberOrNone (attribute (codes "date") attributes) LAST_MOMENT f.date
+file_date text f (attributes, inside, parts, is, are, poster, subject, date, gs, ss) = (attributes, rw date (number_or_none file_checks (codes "date") is.attribute_text attributes LAST_MOMENT is.are_attributes (λ value. refl)))

@@ -8,7 +8,7 @@ use Rattle.nzb_index.specs.declared.error.NzbError.{NzbError}
 use Rattle.nzb_index.specs.declared.error.NzbError.TheVariants.{Memory, Refused, Limit}
 use Rattle.nzb_index.specs.declared.scan.Between.{Between}
 use Rattle.nzb_index.specs.declared.scan.Between.TheVariants.{Other, Declaration}
-use Rattle.nzb_index.specs.Markup.{is_white}
+use Rattle.nzb_writer.specs.Markup.{is_white}
 use Rattle.nzb_index.specs.MarkupReading.{Stop, word, behind_white, up_to, between, between_or, unexpected, ◌>>=◌}
 use Rattle.nzb_index.specs.Readers.{Fails, ReadsTo, EndsBetween, unexpected_at}
 use Rattle.nzb_index.proofs.Words.{starts_front, word_found, up_to_found}

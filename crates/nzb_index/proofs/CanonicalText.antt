@@ -8,13 +8,13 @@ use Rattle.std.proofs.lemmas.Bool.Decides.{nat_tests}
 use Rattle.std.proofs.lemmas.List.{append-nil}
 use Rattle.std.proofs.lemmas.List.Sums.{suffix_len_is}
 use Rattle.numbers.specs.Numbers.{decimal_of, within}
-use Rattle.nzb_index.specs.declared.index.Meta.{Meta}
-use Rattle.nzb_index.specs.declared.index.Segment.{Segment}
-use Rattle.nzb_index.specs.declared.index.FileEntry.{FileEntry}
-use Rattle.nzb_index.specs.declared.index.Index.{Index}
-use Rattle.nzb_index.specs.Markup.{IsTextBytes, Attribute, AttributeChecks, unchecked, is_white, is_control, is_id_byte, is_message_id, IsMarkupName, spaced, IsValue, IsElementText, trimmed, IsAttribute, AreAttributes, has_attribute, IsElement, AreElements, EndsAtFirst}
-use Rattle.nzb_index.specs.Nzb.{segment_checks, file_checks, IsMeta, IsGroup, IsSegment, Listed, groups, segments, Lists, IsFile, Entry, head, file, IsEntry, metas_in, files_in, IsNzb}
-use Rattle.nzb_index.specs.Canonical.{escaped_byte, escaped, meta_text, group_text, segment_text, file_text, head_text, nzb_text, IsValidFile, IsValidIndex}
+use Rattle.nzb_writer.specs.declared.index.Meta.{Meta}
+use Rattle.nzb_writer.specs.declared.index.Segment.{Segment}
+use Rattle.nzb_writer.specs.declared.index.FileEntry.{FileEntry}
+use Rattle.nzb_writer.specs.declared.index.Index.{Index}
+use Rattle.nzb_writer.specs.Markup.{IsTextBytes, Attribute, AttributeChecks, unchecked, is_white, is_control, is_id_byte, is_message_id, IsMarkupName, spaced, IsValue, IsElementText, trimmed, IsAttribute, AreAttributes, has_attribute, IsElement, AreElements, EndsAtFirst}
+use Rattle.nzb_writer.specs.Nzb.{segment_checks, file_checks, IsMeta, IsGroup, IsSegment, Listed, groups, segments, Lists, IsFile, Entry, head, file, IsEntry, metas_in, files_in, IsNzb}
+use Rattle.nzb_writer.specs.Canonical.{escaped_byte, escaped, meta_text, group_text, segment_text, file_text, head_text, nzb_text, IsValidFile, IsValidIndex}
 use Rattle.nzb_index.specs.MarkupReading.{up_to}
 use Rattle.nzb_index.specs.NzbReading.{nzb_of}
 use Rattle.nzb_index.proofs.WrittenNumbers.{decimal_read}
@@ -22,7 +22,7 @@ use Rattle.nzb_index.proofs.Words.{up_to_found}
 use Rattle.nzb_index.proofs.IndexRead.{nzb_back}
 use Rattle.nzb_index.proofs.TextsFound.{encoded, shown, spaced-one, closes, Piece}
 use Rattle.nzb_index.proofs.ElementsFound.{TextPiece}
-use Rattle.limits.specs.declared.TheConstants.{MOST_TEXT_BYTES}
+use Rattle.limits.specs.declared.TheConstants.{LAST_MOMENT, MOST_OCTETS, MOST_TEXT_BYTES}
 
 -- ---- what is escaped
 
@@ -291,7 +291,7 @@ group_line g h = (element_text (codes "group") [] (escaped g), joined (codes "<g
     joined l t e z = simp append_assoc
 
 abbrev IsGoodSegment : Segment → Type 0
-IsGoodSegment s = (1 ≤ s.number) × (s.number ≤ 4294967295) × (s.bytes ≤ 999999999999) × (is_message_id s.id ≡ true)
+IsGoodSegment s = (1 ≤ s.number) × (s.number ≤ 4294967295) × (s.bytes ≤ MOST_OCTETS) × (is_message_id s.id ≡ true)
 
 is_bytes : IsMarkupName (codes "bytes")
 is_bytes = (λ e. cc, refl)
@@ -320,7 +320,7 @@ segment_line s (low, high, most, good) =
         written (codes "bytes") (decimal s.bytes) ∷ written (codes "number") (decimal s.number) ∷ [],
         escaped s.id,
         is_element_text segment_checks (codes "segment") attributes (escaped s.id) (written (codes "bytes") (decimal s.bytes) ∷ written (codes "number") (decimal s.number) ∷ [])
-            (one_attribute segment_checks (codes "bytes") (decimal s.bytes) is_bytes (decimal_escaped s.bytes fits_bytes).1 (within_some 0 999999999999 s.bytes (omega arith) most (omega arith)) [] refl (attribute_text (codes "number") (decimal s.number) ++ []) (written (codes "number") (decimal s.number) ∷ [])
+            (one_attribute segment_checks (codes "bytes") (decimal s.bytes) is_bytes (decimal_escaped s.bytes fits_bytes).1 (within_some 0 MOST_OCTETS s.bytes (omega arith) most (omega arith)) [] refl (attribute_text (codes "number") (decimal s.number) ++ []) (written (codes "number") (decimal s.number) ∷ [])
             (one_attribute segment_checks (codes "number") (decimal s.number) is_number (decimal_escaped s.number fits).1 (within_some 1 4294967295 s.number low high (omega arith)) (written (codes "bytes") (decimal s.bytes) ∷ []) refl [] [] refl)),
         refl,
         sym (rw (decimal_read s.number fits) refl),
@@ -390,7 +390,7 @@ file_line f h =
         parts,
         is_element_text file_checks (codes "file") (poster ++ (date ++ (subject ++ []))) inside (a ∷ b ∷ c ∷ [])
             (one_attribute file_checks (codes "poster") f.poster is_poster h.poster refl [] refl (date ++ (subject ++ [])) (b ∷ c ∷ [])
-            (one_attribute file_checks (codes "date") (decimal f.date) is_date (decimal_escaped f.date date_fits).1 (within_some 0 999999999999 f.date (omega arith) h.date (omega arith)) (a ∷ []) refl (subject ++ []) (c ∷ [])
+            (one_attribute file_checks (codes "date") (decimal f.date) is_date (decimal_escaped f.date date_fits).1 (within_some 0 LAST_MOMENT f.date (omega arith) h.date (omega arith)) (a ∷ []) refl (subject ++ []) (c ∷ [])
             (one_attribute file_checks (codes "subject") f.subject is_subject h.subject refl (a ∷ b ∷ []) refl [] [] refl))),
         lines_are Lists listed_line IsGoodListed listed_line_is parts (h.groups, (h.segments, tt)),
         refl,

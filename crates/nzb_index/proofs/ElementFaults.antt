@@ -8,7 +8,7 @@ use Rattle.std.proofs.lemmas.Slice.Eq.{bytes_eq-Decides}
 use Rattle.nzb_index.specs.declared.error.NzbReason.{NzbReason}
 use Rattle.nzb_index.specs.declared.error.NzbReason.TheVariants.{Unexpected, WrongTag}
 use Rattle.nzb_index.specs.declared.error.NzbLimit.{NzbLimit}
-use Rattle.nzb_index.specs.Markup.{is_white, is_name_byte, trimmed, IsWhite, IsMarkupName, IsBetween, IsElementText, Attribute, AttributeChecks, AreAttributes, AreElements, unchecked}
+use Rattle.nzb_writer.specs.Markup.{is_white, is_name_byte, trimmed, IsWhite, IsMarkupName, IsBetween, IsElementText, Attribute, AttributeChecks, AreAttributes, AreElements, unchecked}
 use Rattle.nzb_index.specs.MarkupReading.{Stop, ValueRead, Tag, limit, stop_at, unexpected, word, name_at, between, behind_white, text_at, tag_at, end_tag, leaf, no_fault, children, parent, only, ◌>>=◌}
 use Rattle.nzb_index.specs.Broken.{OtherByte, BrokenBetween, first_hyphen, comment_between, second_hyphen, in_comment, OpensWith, ClosesWith, NoEndName, OpenEnd}
 use Rattle.nzb_index.specs.Reasons.{Fault, AttributeFault, second_of_a_name, fault_in_value, value_not_allowed, no_white, no_attribute, no_close, no_equals, no_quote, TagFault, ending, StartTag, TextFault, in_text, end_in_text, no_end_in_text, ContentFault, in_one, end_in_content, in_between, no_tag, no_name, no_end_name, open_end, LeafFault, leaf_name, leaf_tag, leaf_text, leaf_end, ParentFault, parent_tag, parent_content}

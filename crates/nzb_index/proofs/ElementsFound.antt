@@ -4,7 +4,7 @@ use Rattle.std.specs.Prelude.{codes, nat_eq, fold, bytes_eq}
 use Rattle.std.specs.List.{starts_with}
 use Rattle.std.proofs.lemmas.Bool.{eqb-true, eqb-false, not-true, not-false}
 use Rattle.std.proofs.lemmas.Slice.Eq.{bytes_eq-Decides}
-use Rattle.nzb_index.specs.Markup.{Attribute, AttributeChecks, AreAttributes, is_control, IsWhite, IsMarkupComment, IsPlainText, IsReference, IsElementText, Denotes, trimmed, IsElement, AreElements, IsBetween}
+use Rattle.nzb_writer.specs.Markup.{Attribute, AttributeChecks, AreAttributes, is_control, IsWhite, IsMarkupComment, IsPlainText, IsReference, IsElementText, Denotes, trimmed, IsElement, AreElements, IsBetween}
 use Rattle.nzb_index.specs.MarkupReading.{Stop, ValueRead, Tag, word, name_at, up_to, reference_at, text_at, end_tag, or_stop, leaf, between, children, parent, behind_white}
 use Rattle.nzb_index.proofs.TextsFound.{Reference, reference_found}
 use Rattle.nzb_index.proofs.Gives.{Gives, gives_ok, gives_err, gives_bind, gives_if, gives_as, gives_test, gives_unexpected, word_gives, between_gives, up_to_gives, white_taken, name_gives}

@@ -7,8 +7,8 @@ use Rattle.std.proofs.lemmas.List.{length-append}
 use Rattle.nzb_index.specs.declared.error.NzbReason.TheVariants.{WrongTag, DoubleAttribute, NoNumber, BadNumber, BadId}
 use Rattle.nzb_index.specs.declared.error.NzbLimit.{NzbLimit}
 use Rattle.nzb_index.specs.declared.error.NzbLimit.TheVariants as limits
-use Rattle.nzb_index.specs.Markup.{Attribute, AttributeChecks, has_attribute, unchecked, is_message_id, trimmed}
-use Rattle.nzb_index.specs.Nzb.{segment_checks, file_checks, segment_count}
+use Rattle.nzb_writer.specs.Markup.{Attribute, AttributeChecks, has_attribute, unchecked, is_message_id, trimmed}
+use Rattle.nzb_writer.specs.Nzb.{segment_checks, file_checks, segment_count}
 use Rattle.nzb_index.specs.MarkupReading.{Stop, refused, limit, ValueRead, Tag, stop_at, unexpected, word, behind_white, name_at, between, text_at, quoted_at, attribute_at, tag_rest, tag_at, or_stop, end_tag, leaf, children, parent, only, no_fault, ◌>>=◌}
 use Rattle.nzb_index.specs.NzbReading.{bad_id, meta_item, group_item, segment_item, file_part, entry_item}
 use Rattle.nzb_index.proofs.Keeps.{Keeps, goes_on, cut, limited, Never, behind, second, same, keeps_bind, keeps_then, keeps_if, stop_keeps, unexpected_keeps, test_keeps, word_keeps, all, part, white_keeps, name_keeps, Edge, nothing, opening, between_keeps}

@@ -3,7 +3,7 @@ use Rattle.std.proofs.Common.{◌≡◌, ℕ, zero, suc, ◌≤◌, List, [], �
 use Rattle.std.specs.Prelude.{codes, fold}
 use Rattle.std.specs.List.{concat}
 use Rattle.std.proofs.lemmas.List.{length-append}
-use Rattle.nzb_index.specs.Markup.{IsWhite, IsMarkupName, IsElementText, IsBetween, AreElements, trimmed}
+use Rattle.nzb_writer.specs.Markup.{IsWhite, IsMarkupName, IsElementText, IsBetween, AreElements, trimmed}
 use Rattle.nzb_index.specs.MarkupReading.{Stop, ValueRead, Tag, unexpected, leaf, between, children, parent}
 use Rattle.nzb_index.proofs.ElementsFound.{Content, none, some}
 use Rattle.nzb_index.proofs.WordsRead.{NoName, name_back, between_back, Stops, stops_back}

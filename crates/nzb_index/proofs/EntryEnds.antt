@@ -6,11 +6,11 @@ use Rattle.std.proofs.lemmas.Bool.{cases_Bool, and_parts, and_from, leb-true, le
 use Rattle.std.proofs.lemmas.Bool.Decides.{nat_tests}
 use Rattle.numbers.specs.Numbers.{decimal_of, within, or_zero}
 use Rattle.nntp_lines.specs.MessageId.{IsMessageId, is_id_byte as id_byte}
-use Rattle.nzb_index.specs.declared.index.Segment.{Segment}
-use Rattle.nzb_index.specs.declared.index.FileEntry.{FileEntry}
-use Rattle.nzb_index.specs.Markup.{Attribute, AttributeChecks, attribute, has_attribute, or_nothing, number_of, is_id_byte, is_message_id}
+use Rattle.nzb_writer.specs.declared.index.Segment.{Segment}
+use Rattle.nzb_writer.specs.declared.index.FileEntry.{FileEntry}
+use Rattle.nzb_writer.specs.Markup.{Attribute, AttributeChecks, attribute, has_attribute, or_nothing, number_of, is_id_byte, is_message_id}
 use Rattle.nzb_index.specs.MarkupReading.{Tag, leaf, tag_at, parent}
-use Rattle.nzb_index.specs.Nzb.{file_checks, segment_checks, Lists}
+use Rattle.nzb_writer.specs.Nzb.{file_checks, segment_checks, Lists}
 use Rattle.nzb_index.specs.NzbReading.{bad_id, segment_item, file_part}
 use Rattle.nzb_index.specs.Elements.{bare}
 use Rattle.nzb_index.specs.Entries.{file_at}

@@ -8,7 +8,7 @@ use Rattle.std.proofs.lemmas.List.{length-append, append-nil, append_cancel_left
 use Rattle.nzb_index.specs.declared.error.NzbReason.{NzbReason}
 use Rattle.nzb_index.specs.declared.error.NzbReason.TheVariants.{Ended, Unexpected, BadReference, BadNumber, WrongTag}
 use Rattle.nzb_index.specs.declared.error.NzbLimit.{NzbLimit}
-use Rattle.nzb_index.specs.Markup.{is_white, is_control, is_name_byte, IsWhite, IsMarkupName, IsBetween, Attribute, has_attribute, AttributeChecks, AreAttributes}
+use Rattle.nzb_writer.specs.Markup.{is_white, is_control, is_name_byte, IsWhite, IsMarkupName, IsBetween, Attribute, has_attribute, AttributeChecks, AreAttributes}
 use Rattle.nzb_index.specs.MarkupReading.{Stop, ValueRead, Tag, text_at, refused, limit, stop_at, unexpected, word, up_to, name_at, between_or, behind_white, reference_at, value_at, quoted_at, attribute_at, tag_rest, tag_at, with_front, ◌>>=◌}
 use Rattle.nzb_index.specs.Broken.{OtherByte, BrokenWord, BrokenInside, BrokenComment, second_hyphen, in_comment, BrokenBetween, first_hyphen, comment_between, NameEnds}
 use Rattle.nzb_index.specs.Reasons.{NoReference, ValueFault, no_reference, no_value_byte, AttributeFault, second_of_a_name, fault_in_value, value_not_allowed, no_white, no_attribute, no_close, no_equals, no_quote, TagFault, TextStop, tag_in_text, no_reference_in_text, control_in_text, no_comment_in_text, comment_in_text, no_name_in_text}

@@ -5,7 +5,7 @@ use Rattle.std.specs.List.{starts_with, prefix_len}
 use Rattle.std.proofs.lemmas.Bool.{eqb-false}
 use Rattle.std.proofs.lemmas.List.{take-append-drop, length-take, append-nil}
 use Rattle.std.proofs.lemmas.List.Sums.{prefix_len-le-length}
-use Rattle.nzb_index.specs.Markup.{is_white, is_name_byte, IsWhite, IsMarkupName, IsBetween, IsMarkupComment, EndsAtFirst}
+use Rattle.nzb_writer.specs.Markup.{is_white, is_name_byte, IsWhite, IsMarkupName, IsBetween, IsMarkupComment, EndsAtFirst}
 use Rattle.nzb_index.specs.MarkupReading.{Stop, word, up_to, unexpected, behind_white, between_or, between, name_at, ◌>>=◌}
 use Rattle.nzb_index.proofs.Words.{word_found, up_to_found, white_front, starts_front}
 use Rattle.nzb_index.proofs.TextsFound.{front_passes}

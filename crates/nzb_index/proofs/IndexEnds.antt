@@ -6,13 +6,13 @@ use Rattle.std.proofs.lemmas.List.{length-drop}
 use Rattle.nzb_index.specs.declared.error.NzbError.{NzbError}
 use Rattle.nzb_index.specs.declared.error.NzbError.TheVariants.{Memory, Refused, Limit}
 use Rattle.nzb_index.specs.declared.error.NzbLimit.TheVariants as limits
-use Rattle.nzb_index.specs.declared.index.Index.{Index}
+use Rattle.nzb_writer.specs.declared.index.Index.{Index}
 use Rattle.nzb_index.specs.declared.scan.Between.{Between}
 use Rattle.nzb_index.specs.declared.scan.Between.TheVariants.{Other, Declaration}
-use Rattle.nzb_index.specs.Markup.{unchecked}
-use Rattle.nzb_index.specs.Canonical.{IsValidIndex}
+use Rattle.nzb_writer.specs.Markup.{unchecked}
+use Rattle.nzb_writer.specs.Canonical.{IsValidIndex}
 use Rattle.nzb_index.specs.MarkupReading.{Stop, Tag, unexpected, word, name_at, between, between_or, tag_at, parent, ◌>>=◌}
-use Rattle.nzb_index.specs.Nzb.{IsNzb}
+use Rattle.nzb_writer.specs.Nzb.{IsNzb}
 use Rattle.nzb_index.specs.NzbReading.{Refusal, refused_at, past, entry_item, nothing_behind, behind_mark, behind_declaration, behind_type, index_at, with_place, nzb_of}
 use Rattle.nzb_index.specs.Readers.{Fails, ReadsName, ReadsTo, EndsBetween, unexpected_at}
 use Rattle.nzb_index.specs.ReadNzb.{NzbAnswers, IsError, FindsIndex, ReadsRoot, behind_root, tail_at}

@@ -7,12 +7,12 @@ use Rattle.std.proofs.lemmas.List.{append-nil, length-append}
 use Rattle.std.proofs.lemmas.List.Sums.{sum_by-append}
 use Rattle.std.proofs.lemmas.Slice.Eq.{bytes_eq-Decides}
 use Rattle.nzb_index.specs.declared.error.NzbLimit.TheVariants as limits
-use Rattle.nzb_index.specs.declared.index.Meta.{Meta}
-use Rattle.nzb_index.specs.declared.index.Segment.{Segment}
-use Rattle.nzb_index.specs.declared.index.FileEntry.{FileEntry}
-use Rattle.nzb_index.specs.declared.index.Index.{Index}
-use Rattle.nzb_index.specs.Markup.{attribute, or_nothing, number_of, unchecked, is_message_id, is_white, is_control, IsBetween}
-use Rattle.nzb_index.specs.Nzb.{segment_checks, file_checks, IsMeta, IsGroup, IsSegment, Listed, groups, segments, Lists, groups_in, segments_in, Entry, head, file, IsEntry, metas_in, files_in, IsMark, IsDeclaration, IsDocumentType, segment_count, IsNzb}
+use Rattle.nzb_writer.specs.declared.index.Meta.{Meta}
+use Rattle.nzb_writer.specs.declared.index.Segment.{Segment}
+use Rattle.nzb_writer.specs.declared.index.FileEntry.{FileEntry}
+use Rattle.nzb_writer.specs.declared.index.Index.{Index}
+use Rattle.nzb_writer.specs.Markup.{attribute, or_nothing, number_of, unchecked, is_message_id, is_white, is_control, IsBetween}
+use Rattle.nzb_writer.specs.Nzb.{segment_checks, file_checks, IsMeta, IsGroup, IsSegment, Listed, groups, segments, Lists, groups_in, segments_in, Entry, head, file, IsEntry, metas_in, files_in, IsMark, IsDeclaration, IsDocumentType, segment_count, IsNzb}
 use Rattle.nzb_index.specs.MarkupReading.{Stop, refused, limit, word, name_at, tag_at, leaf, no_fault, between, between_or, one_white}
 use Rattle.nzb_index.specs.NzbReading.{Refusal, past, bad_id, meta_item, group_item, segment_item, file_part, entry_item, with_file, type_end, behind_type, behind_mark, behind_declaration, nothing_behind, index_at, nzb_of, with_place}
 use Rattle.nzb_index.proofs.Gives.{Gives, gives_ok, gives_err, gives_bind, gives_if, gives_unexpected, gives_as, gives_test, word_gives, between_or_gives, Between, between_gives, up_to_gives, name_gives}

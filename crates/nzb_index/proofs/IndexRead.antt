@@ -5,11 +5,11 @@ use Rattle.std.specs.List.{starts_with, list_all, list_any, concat, AllByRecursi
 use Rattle.std.proofs.lemmas.Bool.{and_parts, and_left, lt-ltb, le-ltb, or_parts}
 use Rattle.std.proofs.lemmas.Bool.Decides.{nat_tests}
 use Rattle.std.proofs.lemmas.List.{length-append, append-nil}
-use Rattle.nzb_index.specs.declared.index.Segment.{Segment}
-use Rattle.nzb_index.specs.declared.index.FileEntry.{FileEntry}
-use Rattle.nzb_index.specs.declared.index.Index.{Index}
-use Rattle.nzb_index.specs.Markup.{Attribute, AttributeChecks, IsElement, attribute, or_nothing, number_of, unchecked, is_white, is_control, IsWhite, IsMarkupName, IsMarkupComment}
-use Rattle.nzb_index.specs.Nzb.{segment_checks, file_checks, IsMeta, IsGroup, IsSegment, Listed, groups, segments, Lists, Entry, head, file, IsEntry, IsRoot, IsMark, IsDeclaration, IsDocumentType, segment_count, IsNzb}
+use Rattle.nzb_writer.specs.declared.index.Segment.{Segment}
+use Rattle.nzb_writer.specs.declared.index.FileEntry.{FileEntry}
+use Rattle.nzb_writer.specs.declared.index.Index.{Index}
+use Rattle.nzb_writer.specs.Markup.{Attribute, AttributeChecks, IsElement, attribute, or_nothing, number_of, unchecked, is_white, is_control, IsWhite, IsMarkupName, IsMarkupComment}
+use Rattle.nzb_writer.specs.Nzb.{segment_checks, file_checks, IsMeta, IsGroup, IsSegment, Listed, groups, segments, Lists, Entry, head, file, IsEntry, IsRoot, IsMark, IsDeclaration, IsDocumentType, segment_count, IsNzb}
 use Rattle.nzb_index.specs.MarkupReading.{Stop, ValueRead, Tag, no_fault, between, between_or}
 use Rattle.nzb_index.specs.NzbReading.{bad_id, meta_item, group_item, segment_item, file_part, entry_item, type_end, behind_type, behind_mark, behind_declaration, index_at, nzb_of}
 use Rattle.nzb_index.proofs.IndexFound.{push, Any, FewSegments, fold_push, listed, all_listed, FewInFile, entered, all_entered, Few, segments_with}

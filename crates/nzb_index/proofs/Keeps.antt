@@ -9,7 +9,7 @@ use Rattle.std.proofs.lemmas.List.Sums.{prefix_len-le-length}
 use Rattle.nzb_index.specs.declared.error.NzbReason.{NzbReason}
 use Rattle.nzb_index.specs.declared.error.NzbReason.TheVariants.{Ended, Unexpected}
 use Rattle.nzb_index.specs.declared.error.NzbLimit.{NzbLimit}
-use Rattle.nzb_index.specs.Markup.{is_white, is_control, is_name_byte}
+use Rattle.nzb_writer.specs.Markup.{is_white, is_control, is_name_byte}
 use Rattle.nzb_index.specs.MarkupReading.{Stop, refused, limit, stop_at, unexpected, word, behind_white, up_to, name_at, one_white, between_or, ◌>>=◌}
 
 -- `after` is what a reader answers with `more` behind the text at which it answered `before`.

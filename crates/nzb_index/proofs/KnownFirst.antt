@@ -7,8 +7,8 @@ use Rattle.std.proofs.lemmas.List.{length-append, append-nil, length-take, take-
 use Rattle.nzb_index.specs.declared.error.NzbReason.{NzbReason}
 use Rattle.nzb_index.specs.declared.error.NzbReason.TheVariants.{Ended, Unexpected, BadReference, WrongTag, DoubleAttribute, NoNumber, BadNumber, BadId, Subset}
 use Rattle.nzb_index.specs.declared.error.NzbLimit.TheVariants as limits
-use Rattle.nzb_index.specs.declared.index.Index.{Index}
-use Rattle.nzb_index.specs.Markup.{unchecked, is_control}
+use Rattle.nzb_writer.specs.declared.index.Index.{Index}
+use Rattle.nzb_writer.specs.Markup.{unchecked, is_control}
 use Rattle.nzb_index.specs.MarkupReading.{Stop, word, unexpected, name_at, only, tag_at, parent, between, between_or, up_to, one_white, ◌>>=◌}
 use Rattle.nzb_index.specs.NzbReading.{entry_item, type_end, behind_type, behind_mark, behind_declaration, nothing_behind, index_at, Refusal, refused_at, past, with_place, nzb_of}
 use Rattle.nzb_index.proofs.Keeps.{Keeps, goes_on, ends, cut, stays, limited, Never, behind, same, keeps_bind, keeps_then, keeps_if, stop_keeps, unexpected_keeps, word_keeps, one_white_keeps, name_keeps, up_to_keeps, Edge, nothing, opening, between_keeps}

@@ -27,8 +27,6 @@ pub mod ValidIndex
 pub mod Words
 pub mod WordsRead
 pub mod WrittenNumbers
-pub mod EscapedText
-pub mod Appending
 pub mod Places
 pub mod Betweens
 pub mod ReferenceEnds
@@ -38,4 +36,3 @@ pub mod TrimmedText
 pub mod Children
 pub mod EntryEnds
 pub mod IndexEnds
-pub mod ValidTexts

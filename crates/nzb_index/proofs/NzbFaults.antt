@@ -6,11 +6,11 @@ use Rattle.std.proofs.lemmas.List.{length-append}
 use Rattle.nzb_index.specs.declared.error.NzbReason.{NzbReason}
 use Rattle.nzb_index.specs.declared.error.NzbReason.TheVariants.{WrongTag, NoNumber, BadId}
 use Rattle.nzb_index.specs.declared.error.NzbLimit.TheVariants as limits
-use Rattle.nzb_index.specs.declared.index.Segment.{Segment}
-use Rattle.nzb_index.specs.declared.index.FileEntry.{FileEntry}
-use Rattle.nzb_index.specs.declared.index.Index.{Index}
-use Rattle.nzb_index.specs.Markup.{attribute, has_attribute, or_nothing, number_of, unchecked}
-use Rattle.nzb_index.specs.Nzb.{segment_checks, file_checks, segment_count, IsMeta, IsGroup, IsSegment, groups, segments, Lists, head, file, IsEntry}
+use Rattle.nzb_writer.specs.declared.index.Segment.{Segment}
+use Rattle.nzb_writer.specs.declared.index.FileEntry.{FileEntry}
+use Rattle.nzb_writer.specs.declared.index.Index.{Index}
+use Rattle.nzb_writer.specs.Markup.{attribute, has_attribute, or_nothing, number_of, unchecked}
+use Rattle.nzb_writer.specs.Nzb.{segment_checks, file_checks, segment_count, IsMeta, IsGroup, IsSegment, groups, segments, Lists, head, file, IsEntry}
 use Rattle.nzb_index.specs.MarkupReading.{ValueRead, Tag, refused, stop_at, tag_at, leaf, parent, ◌>>=◌}
 use Rattle.nzb_index.specs.NzbReading.{bad_id, meta_item, group_item, segment_item, file_part, entry_item, with_file}
 use Rattle.nzb_index.specs.Reasons.{LeafFault, SegmentFault, segment_name, segment_tag, no_number, segment_text, segment_end, no_id, other_id, ListedFault, listed_name, in_groups, in_segments, EntryFault, entry_name, in_head, in_file}

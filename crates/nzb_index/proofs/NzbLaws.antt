@@ -2,8 +2,8 @@
 use Rattle.std.proofs.Common.{◌≡◌, ℕ, ◌<◌, true, List, ◌++◌, length, take, Result, Ok, Err, refl, sym, ap, ◌∙◌, arith, inl, inr, ◌⊎◌}
 use Rattle.std.proofs.lemmas.List.{length-take}
 use Rattle.nzb_index.specs.declared.error.NzbReason.TheVariants.{Ended, Unexpected, BadReference, WrongTag, DoubleAttribute, NoNumber, BadNumber, BadId, Subset}
-use Rattle.nzb_index.specs.declared.index.Index.{Index}
-use Rattle.nzb_index.specs.Nzb.{IsNzb}
+use Rattle.nzb_writer.specs.declared.index.Index.{Index}
+use Rattle.nzb_writer.specs.Nzb.{IsNzb}
 use Rattle.nzb_index.specs.NzbReading.{Refusal, refused_at, past, nzb_of}
 use Rattle.nzb_index.specs.Refusal.{IsCutShort, IsKnownFirst, HasOneIndex, HasOneRefusal, OneAnswer, KnownFirst}
 use Rattle.nzb_index.proofs.IndexFound.{nzb_found}

@@ -10,7 +10,7 @@ use Rattle.nzb_index.specs.declared.error.NzbError.TheVariants.{Refused}
 use Rattle.nzb_index.specs.declared.error.NzbReason.TheVariants.{WrongTag}
 use Rattle.nzb_index.specs.declared.pieces.Piece.{Piece}
 use Rattle.nzb_index.specs.declared.pieces.Piece.TheVariants.{Goes, Ends}
-use Rattle.nzb_index.specs.Markup.{is_white, is_control}
+use Rattle.nzb_writer.specs.Markup.{is_white, is_control}
 use Rattle.nzb_index.specs.MarkupReading.{Stop, stop_at, unexpected, word, up_to, name_at, reference_at, with_front, value_at, text_at, ◌>>=◌}
 use Rattle.nzb_index.specs.Readers.{Fails, unexpected_at, ReadsOn, Steps, FailsAt, ReadsPiece, stands_in_value, stands_in_text}
 use Rattle.nzb_index.proofs.Places.{here, over, unexpected_fails}

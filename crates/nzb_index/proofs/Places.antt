@@ -5,7 +5,7 @@ use Rattle.std.specs.List.{prefix_len, starts_with}
 use Rattle.std.proofs.lemmas.Bool.{cases_Bool, eq-eqb, eqb-true, eqb-false, ne_eqb}
 use Rattle.std.proofs.lemmas.List.{length-append, length-drop, nil_from_length, drop-drop}
 use Rattle.nzb_index.specs.declared.error.NzbReason.TheVariants.{Ended, Unexpected}
-use Rattle.nzb_index.specs.Markup.{is_control, is_name_byte}
+use Rattle.nzb_writer.specs.Markup.{is_control, is_name_byte}
 use Rattle.nzb_index.specs.MarkupReading.{Stop, refused, word, up_to, name_at, unexpected}
 use Rattle.nzb_index.specs.Readers.{Fails, unexpected_at}
 use Rattle.nzb_index.proofs.Words.{starts_front}

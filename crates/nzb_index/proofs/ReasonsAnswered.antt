@@ -8,9 +8,9 @@ use Rattle.std.proofs.lemmas.List.{length-append}
 use Rattle.nzb_index.specs.declared.error.NzbReason.{NzbReason}
 use Rattle.nzb_index.specs.declared.error.NzbReason.TheVariants.{Unexpected, BadReference, Subset}
 use Rattle.nzb_index.specs.declared.error.NzbLimit.{NzbLimit}
-use Rattle.nzb_index.specs.declared.index.Index.{Index}
-use Rattle.nzb_index.specs.Markup.{is_white, is_control, is_name_byte, unchecked, IsWhite, IsMarkupName, IsMarkupComment, IsBetween}
-use Rattle.nzb_index.specs.Nzb.{IsEntry, IsMark, IsDeclaration, IsDocumentType}
+use Rattle.nzb_writer.specs.declared.index.Index.{Index}
+use Rattle.nzb_writer.specs.Markup.{is_white, is_control, is_name_byte, unchecked, IsWhite, IsMarkupName, IsMarkupComment, IsBetween}
+use Rattle.nzb_writer.specs.Nzb.{IsEntry, IsMark, IsDeclaration, IsDocumentType}
 use Rattle.nzb_index.specs.MarkupReading.{Stop, Tag, stop_at, unexpected, word, name_at, one_white, between_or, between, tag_at, parent, only, ◌>>=◌}
 use Rattle.nzb_index.specs.NzbReading.{refused_at, past, entry_item, type_end, behind_type, behind_mark, behind_declaration, nothing_behind, index_at, nzb_of, with_place}
 use Rattle.nzb_index.specs.Refusal.{IsTextRefused, IsCutShort}

@@ -7,7 +7,7 @@ use Rattle.std.proofs.lemmas.List.{append-nil, append_cancel_left, length-append
 use Rattle.std.proofs.lemmas.Slice.Eq.{bytes_eq-Decides}
 use Rattle.nzb_index.specs.declared.error.NzbReason.{NzbReason}
 use Rattle.nzb_index.specs.declared.error.NzbReason.TheVariants.{WrongTag, DoubleAttribute, BadReference, Unexpected}
-use Rattle.nzb_index.specs.Markup.{is_control, is_white, is_name_byte, trimmed, IsWhite, IsElementText, Attribute, AreAttributes, IsBetween, has_attribute, AttributeChecks, unchecked}
+use Rattle.nzb_writer.specs.Markup.{is_control, is_white, is_name_byte, trimmed, IsWhite, IsElementText, Attribute, AreAttributes, IsBetween, has_attribute, AttributeChecks, unchecked}
 use Rattle.nzb_index.specs.MarkupReading.{Stop, ValueRead, Tag, word, up_to, name_at, behind_white, between, reference_at, text_at, quoted_at, attribute_at, tag_rest, tag_at, end_tag, or_stop, leaf, no_fault, children, parent, only, ◌>>=◌}
 use Rattle.nzb_index.specs.Broken.{OtherByte, NameEnds, OpensWith, ClosesWith, NoEndName, OpenEnd}
 use Rattle.nzb_index.specs.Reasons.{Fault, AttributeFault, second_of_a_name, fault_in_value, value_not_allowed, no_white, no_attribute, no_close, no_equals, no_quote, TagFault, ending, StartTag, TextStop, tag_in_text, no_reference_in_text, control_in_text, no_comment_in_text, comment_in_text, no_name_in_text, TextFault, in_text, end_in_text, no_end_in_text, ContentFault, in_one, end_in_content, in_between, no_tag, no_name, no_end_name, open_end, LeafFault, leaf_name, leaf_tag, leaf_text, leaf_end}

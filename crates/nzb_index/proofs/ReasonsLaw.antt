@@ -8,9 +8,9 @@ use Rattle.std.proofs.lemmas.Slice.Eq.{bytes_eq-Decides}
 use Rattle.nzb_index.specs.declared.error.NzbReason.{NzbReason}
 use Rattle.nzb_index.specs.declared.error.NzbReason.TheVariants.{Unexpected, WrongTag, NoNumber, BadId, Subset}
 use Rattle.nzb_index.specs.declared.error.NzbLimit.TheVariants as limits
-use Rattle.nzb_index.specs.declared.index.Index.{Index}
-use Rattle.nzb_index.specs.Markup.{is_control, is_white, is_name_byte, is_message_id, has_attribute, unchecked, IsBetween}
-use Rattle.nzb_index.specs.Nzb.{segment_checks, file_checks, segment_count, IsMeta, IsGroup, IsSegment, Lists, IsEntry, metas_in, files_in, IsRoot}
+use Rattle.nzb_writer.specs.declared.index.Index.{Index}
+use Rattle.nzb_writer.specs.Markup.{is_control, is_white, is_name_byte, is_message_id, has_attribute, unchecked, IsBetween}
+use Rattle.nzb_writer.specs.Nzb.{segment_checks, file_checks, segment_count, IsMeta, IsGroup, IsSegment, Lists, IsEntry, metas_in, files_in, IsRoot}
 use Rattle.nzb_index.specs.MarkupReading.{Stop, refused, limit, word, name_at, one_white, between, between_or, tag_at, leaf}
 use Rattle.nzb_index.specs.NzbReading.{Refusal, refused_at, past, bad_id, meta_item, group_item, segment_item, file_part, entry_item, type_end, behind_type, behind_mark, behind_declaration, nothing_behind, index_at, nzb_of, with_place}
 use Rattle.nzb_index.specs.Broken.{OtherByte, OpensType, BrokenDeclaration, declaration_name, no_white_behind_xml, in_declaration, BrokenType, comment_before, type_name, no_white_behind_type, in_type, behind_type as behind_its_end, BrokenEnd, in_end, no_comment}

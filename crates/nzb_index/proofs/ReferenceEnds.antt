@@ -11,7 +11,7 @@ use Rattle.std.proofs.lemmas.List.{length-append, length-drop, drop-drop}
 use Rattle.nzb_index.specs.declared.error.NzbError.{NzbError}
 use Rattle.nzb_index.specs.declared.error.NzbError.TheVariants.{Refused}
 use Rattle.nzb_index.specs.declared.error.NzbReason.TheVariants.{Ended, BadReference}
-use Rattle.nzb_index.specs.Markup.{is_character}
+use Rattle.nzb_writer.specs.Markup.{is_character}
 use Rattle.nzb_index.specs.MarkupReading.{Stop, stop_at, digits_at, named, reference_at, references}
 use Rattle.nzb_index.specs.Readers.{Fails, ReadsReference, is_digit_of, capped}
 use Rattle.nzb_index.proofs.Words.{starts_front}

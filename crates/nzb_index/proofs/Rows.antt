@@ -4,14 +4,14 @@ use Rattle.std.specs.Prelude.{codes, decimal}
 use Rattle.std.specs.Int.Digits.{digits_of}
 use Rattle.std.proofs.lemmas.Fmt.{decimal-digits_of}
 use Rattle.nzb_index.specs.declared.error.NzbReason.TheVariants.{Ended, Unexpected, BadReference, WrongTag, DoubleAttribute, NoNumber, BadId, Subset}
-use Rattle.nzb_index.specs.Canonical.{nzb_text, segment_text, file_text}
-use Rattle.nzb_index.specs.declared.index.Index.{Index}
+use Rattle.nzb_writer.specs.Canonical.{nzb_text, segment_text, file_text}
+use Rattle.nzb_writer.specs.declared.index.Index.{Index}
 use Rattle.nzb_index.specs.declared.error.NzbLimit.{NzbLimit}
 use Rattle.nzb_index.specs.NzbReading.{nzb_of, refused_at, past}
 use Rattle.nzb_index.specs.Refusal.{IsTextRefused, IsCutShort}
 use Rattle.nzb_index.proofs.ReasonsAnswered.{reasons_told}
-use Rattle.nzb_index.specs.Markup.{unchecked, IsBetween}
-use Rattle.nzb_index.specs.Nzb.{file_checks}
+use Rattle.nzb_writer.specs.Markup.{unchecked, IsBetween}
+use Rattle.nzb_writer.specs.Nzb.{file_checks}
 use Rattle.nzb_index.specs.Broken.{NameEnds, no_comment}
 use Rattle.nzb_index.specs.Reasons.{HasReason, StartTag, end_in_content, in_one, parent_content, no_tag, in_file, root_name, root_inside, in_nzb, behind_root, subset as open_type}
 

@@ -8,7 +8,7 @@ use Rattle.std.proofs.lemmas.Bool.{eqb-true, cases_Bool, or_from, and_parts}
 use Rattle.std.proofs.lemmas.List.{append-nil}
 use Rattle.nzb_index.specs.declared.error.NzbReason.{NzbReason}
 use Rattle.nzb_index.specs.declared.error.NzbReason.TheVariants.{Ended, Unexpected, BadReference, WrongTag, DoubleAttribute, NoNumber, BadNumber, BadId, Subset}
-use Rattle.nzb_index.specs.Markup.{is_white, is_control, is_name_byte, is_character, IsBetween}
+use Rattle.nzb_writer.specs.Markup.{is_white, is_control, is_name_byte, is_character, IsBetween}
 use Rattle.nzb_index.specs.MarkupReading.{Stop, ValueRead, refused, limit, unexpected, word, up_to, name_at, one_white, between_or, between, behind_white, references, digits_at, named, reference_at, with_front, ◌>>=◌}
 use Rattle.nzb_index.specs.Reasons.{Fault, NoReference}
 use Rattle.nzb_index.specs.Broken.{OtherByte, BrokenWord, BrokenInside, BrokenComment, second_hyphen, in_comment, BrokenBetween, first_hyphen, comment_between}

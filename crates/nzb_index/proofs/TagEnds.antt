@@ -14,7 +14,7 @@ use Rattle.nzb_index.specs.declared.error.NzbError.{NzbError}
 use Rattle.nzb_index.specs.declared.error.NzbError.TheVariants.{Refused}
 use Rattle.nzb_index.specs.declared.error.NzbReason.{NzbReason}
 use Rattle.nzb_index.specs.declared.error.NzbReason.TheVariants.{DoubleAttribute, BadNumber}
-use Rattle.nzb_index.specs.Markup.{Attribute, AttributeChecks, attribute, has_attribute, or_nothing}
+use Rattle.nzb_writer.specs.Markup.{Attribute, AttributeChecks, attribute, has_attribute, or_nothing}
 use Rattle.nzb_index.specs.MarkupReading.{Stop, stop_at, unexpected, word, behind_white, name_at, quoted_at, value_at, attribute_at, tag_rest, tag_at, ◌>>=◌}
 use Rattle.nzb_index.specs.Readers.{Fails, ReadsName, ReadsValue, unexpected_at}
 use Rattle.nzb_index.specs.declared.tags.TheConstants.{FEW_NAMES}

@@ -4,7 +4,7 @@ use Rattle.std.specs.Prelude.{codes, nat_eq}
 use Rattle.std.specs.List.{starts_with}
 use Rattle.std.proofs.lemmas.Bool.{eqb-true, eq-eqb, or_cases, both_ways}
 use Rattle.std.proofs.lemmas.List.{append-nil}
-use Rattle.nzb_index.specs.Markup.{Attribute, IsAttribute, AreAttributes, AttributeChecks, has_attribute, IsWhite}
+use Rattle.nzb_writer.specs.Markup.{Attribute, IsAttribute, AreAttributes, AttributeChecks, has_attribute, IsWhite}
 use Rattle.nzb_index.specs.MarkupReading.{Tag, quoted_at, attribute_at, tag_rest, tag_at, name_at, word, behind_white}
 use Rattle.nzb_index.proofs.Words.{starts_front}
 use Rattle.nzb_index.proofs.TextsFound.{Value, value_found}

@@ -5,7 +5,7 @@ use Rattle.std.specs.List.{starts_with, list_all, list_any}
 use Rattle.std.proofs.lemmas.Bool.{ne_eqb, and_parts, and_left}
 use Rattle.std.proofs.lemmas.List.{length-append, append-nil}
 use Rattle.std.proofs.lemmas.Slice.Eq.{bytes_eq-Decides}
-use Rattle.nzb_index.specs.Markup.{Attribute, AttributeChecks, IsAttribute, AreAttributes, has_attribute, is_white, is_name_byte, IsWhite, IsMarkupName, IsValue, IsElement}
+use Rattle.nzb_writer.specs.Markup.{Attribute, AttributeChecks, IsAttribute, AreAttributes, has_attribute, is_white, is_name_byte, IsWhite, IsMarkupName, IsValue, IsElement}
 use Rattle.nzb_index.specs.MarkupReading.{Stop, Tag, behind_white, name_at, quoted_at, attribute_at, tag_rest, tag_at, end_tag}
 use Rattle.nzb_index.proofs.TagsFound.{tag_end}
 use Rattle.nzb_index.proofs.ElementsFound.{Content, none, some}

@@ -8,7 +8,7 @@ use Rattle.std.proofs.lemmas.Bool.{eqb-true, eqb-false, eq-eqb, ne_eqb, cases_Bo
 use Rattle.std.proofs.lemmas.Bool.Decides.{nat_tests}
 use Rattle.std.proofs.lemmas.List.{take-append-drop, drop-drop, length-take, length-drop}
 use Rattle.nzb_index.specs.declared.error.NzbReason.TheVariants.{Ended, BadReference}
-use Rattle.nzb_index.specs.Markup.{is_white, is_control, is_character, IsNamedReference, IsReference, IsPlainText, Denotes, spaced}
+use Rattle.nzb_writer.specs.Markup.{is_white, is_control, is_character, IsNamedReference, IsReference, IsPlainText, Denotes, spaced}
 use Rattle.nzb_index.specs.MarkupReading.{Stop, word, unexpected, stop_at, references, digits_at, named, reference_at, with_front, value_at, ◌>>=◌}
 use Rattle.nzb_index.proofs.Words.{chosen, bind_ok, starts_front}
 

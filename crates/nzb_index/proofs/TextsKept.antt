@@ -8,7 +8,7 @@ use Rattle.std.proofs.lemmas.Bool.{eqb-true, eq-eqb, eqb-false, ne_eqb, cases_Bo
 use Rattle.std.proofs.lemmas.List.{take-append-le, drop-append-le, length-drop}
 use Rattle.std.proofs.lemmas.List.Sums.{prefix_len-le-length}
 use Rattle.nzb_index.specs.declared.error.NzbReason.TheVariants.{BadReference, WrongTag}
-use Rattle.nzb_index.specs.Markup.{is_white, is_control, is_character}
+use Rattle.nzb_writer.specs.Markup.{is_white, is_control, is_character}
 use Rattle.nzb_index.specs.MarkupReading.{Stop, stop_at, word, up_to, name_at, references, digits_at, named, reference_at, with_front, value_at, text_at, ◌>>=◌}
 use Rattle.nzb_index.proofs.Words.{starts_front}
 use Rattle.nzb_index.proofs.Keeps.{Keeps, goes_on, cut, Never, second, keeps_then, keeps_if, stop_keeps, unexpected_keeps, word_keeps, up_to_keeps, name_keeps, prefix_keeps, longer}

@@ -7,7 +7,7 @@ use Rattle.std.specs.Str.Parse.{digits_value}
 use Rattle.std.proofs.lemmas.Bool.{eq-eqb, ne_eqb, cases_Bool, cases_eq, and_parts, or_parts, and_left, and_right}
 use Rattle.std.proofs.lemmas.Bool.Decides.{nat_tests}
 use Rattle.std.proofs.lemmas.List.{length-append, append-nil, drop-drop}
-use Rattle.nzb_index.specs.Markup.{is_white, is_control, is_character, IsReference, IsNamedReference, spaced}
+use Rattle.nzb_writer.specs.Markup.{is_white, is_control, is_character, IsReference, IsNamedReference, spaced}
 use Rattle.nzb_index.specs.MarkupReading.{Stop, ValueRead, digits_at, reference_at, with_front, value_at, text_at}
 use Rattle.nzb_index.proofs.TextsFound.{IsQuiet, is_loud, quiet_parts, digits_quiet, decimal_is_hex, quiet-append, shown, spaced-one, shown_plain, shown_white, closes, encoded, Piece}
 use Rattle.nzb_index.proofs.ElementsFound.{TextPiece}

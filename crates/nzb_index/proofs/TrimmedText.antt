@@ -4,7 +4,7 @@ use Rattle.std.proofs.lemmas.Bool.{cases_eq}
 use Rattle.std.specs.List.{suffix_len}
 use Rattle.std.proofs.lemmas.List.{length-drop, get_or-drop}
 use Rattle.std.proofs.lemmas.List.Sums.{suffix_len_is}
-use Rattle.nzb_index.specs.Markup.{is_white, trimmed}
+use Rattle.nzb_writer.specs.Markup.{is_white, trimmed}
 use Rattle.nzb_index.specs.MarkupReading.{behind_white}
 
 -- behind the end only white stands

@@ -7,16 +7,17 @@ use Rattle.std.proofs.lemmas.Bool.Decides.{nat_tests}
 use Rattle.std.proofs.lemmas.List.{get_or-reverse, length-reverse}
 use Rattle.std.proofs.lemmas.List.Sums.{prefix_len_stops, suffix_len-take_no}
 use Rattle.numbers.specs.Numbers.{decimal_of, within}
-use Rattle.nzb_index.specs.declared.index.Meta.{Meta}
-use Rattle.nzb_index.specs.declared.index.Segment.{Segment}
-use Rattle.nzb_index.specs.declared.index.FileEntry.{FileEntry}
-use Rattle.nzb_index.specs.declared.index.Index.{Index}
-use Rattle.nzb_index.specs.Markup.{IsTextBytes, IsPlainText, Attribute, AreAttributes, AttributeChecks, attribute, or_nothing, is_white, is_control, is_character, IsReference, trimmed, IsElementText, IsValue, AreElements, unchecked, is_message_id}
-use Rattle.nzb_index.specs.Canonical.{IsValidFile, IsValidIndex}
-use Rattle.nzb_index.specs.Nzb.{file_checks, IsMeta, IsGroup, IsSegment, Listed, groups, segments, Lists, groups_in, segments_in, IsFile, Entry, head, file, IsEntry, metas_in, files_in, IsRoot, IsNzb}
+use Rattle.nzb_writer.specs.declared.index.Meta.{Meta}
+use Rattle.nzb_writer.specs.declared.index.Segment.{Segment}
+use Rattle.nzb_writer.specs.declared.index.FileEntry.{FileEntry}
+use Rattle.nzb_writer.specs.declared.index.Index.{Index}
+use Rattle.nzb_writer.specs.Markup.{IsTextBytes, IsPlainText, Attribute, AreAttributes, AttributeChecks, attribute, or_nothing, is_white, is_control, is_character, IsReference, trimmed, IsElementText, IsValue, AreElements, unchecked, is_message_id}
+use Rattle.nzb_writer.specs.Canonical.{IsValidFile, IsValidIndex}
+use Rattle.nzb_writer.specs.Nzb.{file_checks, IsMeta, IsGroup, IsSegment, Listed, groups, segments, Lists, groups_in, segments_in, IsFile, Entry, head, file, IsEntry, metas_in, files_in, IsRoot, IsNzb}
 use Rattle.nzb_index.proofs.Attributes.{IsNumberOrNone, segment_numbers, file_date}
 use Rattle.nzb_index.proofs.TextsFound.{Piece}
 use Rattle.nzb_index.proofs.ElementsFound.{TextPiece}
+use Rattle.limits.specs.declared.TheConstants.{MOST_OCTETS, LAST_MOMENT}
 
 -- ---- white at the ends
 
@@ -152,7 +153,7 @@ group_valid : (text g : List ℕ) → IsGroup text g → IsTextBytes g × (trimm
 group_valid text g (attributes, inside, is, t) = text_valid inside g t
 
 abbrev IsGoodSegment : Segment → Type 0
-IsGoodSegment s = (1 ≤ s.number) × (s.number ≤ 4294967295) × (s.bytes ≤ 999999999999) × (is_message_id s.id ≡ true)
+IsGoodSegment s = (1 ≤ s.number) × (s.number ≤ 4294967295) × (s.bytes ≤ MOST_OCTETS) × (is_message_id s.id ≡ true)
 
 within_bounds : (low high n : ℕ) (o : Option ℕ) → within low high o ≡ Some n → (low ≤ n) × (n ≤ high)
 within_bounds low high n None e = absurd cc
@@ -176,7 +177,7 @@ segment_valid : (text : List ℕ) (s : Segment) → IsSegment text s → IsGoodS
 segment_valid text s is =
     let numbers = segment_numbers text s is in
     let bounds = within_bounds 1 4294967295 s.number (decimal_of numbers.1.0) numbers.1.2 in
-    (bounds.0, bounds.1, at_most (attribute (codes "bytes") numbers.0) 999999999999 s.bytes numbers.2, good is)
+    (bounds.0, bounds.1, at_most (attribute (codes "bytes") numbers.0) MOST_OCTETS s.bytes numbers.2, good is)
   where
     good : IsSegment text s → is_message_id s.id ≡ true
     good (attributes, inside, e, has, number, bytes, t, id) = id
@@ -209,13 +210,13 @@ good_segments (segments ss) h = h
 file_valid : (text : List ℕ) (f : FileEntry) → IsFile text f → IsValidFile f
 file_valid text f is = go is (file_date text f is)
   where
-    go : IsFile text f → ((attributes : List Attribute) × IsNumberOrNone (attribute (codes "date") attributes) 999999999999 f.date) → IsValidFile f
+    go : IsFile text f → ((attributes : List Attribute) × IsNumberOrNone (attribute (codes "date") attributes) LAST_MOMENT f.date) → IsValidFile f
     go (attributes, inside, parts, e, are, poster, subject, date, gs, ss) (others, fits) =
         let all = elements_valid Lists IsGoodListed listed_valid inside parts are in
         record {
           poster = rw poster (attributes_clean file_checks (codes "poster") [] e.attribute_text attributes e.are_attributes);
           subject = rw subject (attributes_clean file_checks (codes "subject") [] e.attribute_text attributes e.are_attributes);
-          date = at_most (attribute (codes "date") others) 999999999999 f.date fits;
+          date = at_most (attribute (codes "date") others) LAST_MOMENT f.date fits;
           groups = rw gs (all_parts (λ g. IsTextBytes g × (trimmed g ≡ g)) groups_in IsGoodListed good_groups parts all);
           segments = rw ss (all_parts IsGoodSegment segments_in IsGoodListed good_segments parts all);
         }

@@ -5,7 +5,7 @@ use Rattle.std.specs.List.{starts_with, list_any}
 use Rattle.std.proofs.lemmas.Bool.{eqb-true, eqb-false, or_parts, or_from, and_parts}
 use Rattle.std.proofs.lemmas.List.{length-append}
 use Rattle.nzb_index.specs.declared.error.NzbReason.{NzbReason}
-use Rattle.nzb_index.specs.Markup.{is_control, is_white, Denotes, spaced}
+use Rattle.nzb_writer.specs.Markup.{is_control, is_white, Denotes, spaced}
 use Rattle.nzb_index.specs.MarkupReading.{reference_at, value_at, quoted_at}
 use Rattle.nzb_index.specs.Reasons.{NoReference, ValueFault, no_reference, no_value_byte}
 use Rattle.nzb_index.proofs.Words.{starts_front}

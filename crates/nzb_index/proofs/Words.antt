@@ -4,7 +4,7 @@ use Rattle.std.specs.Prelude.{nat_eq}
 use Rattle.std.specs.List.{starts_with, list_all, prefix_len}
 use Rattle.std.proofs.lemmas.Bool.{eqb-true, eq-eqb, cases_Bool, and_parts, and_from, or_from}
 use Rattle.std.proofs.lemmas.List.{length-append, nil_from_length}
-use Rattle.nzb_index.specs.Markup.{is_white, is_control, IsWhite, EndsAtFirst}
+use Rattle.nzb_writer.specs.Markup.{is_white, is_control, IsWhite, EndsAtFirst}
 use Rattle.nzb_index.specs.MarkupReading.{Stop, word, up_to, unexpected, ◌>>=◌}
 
 -- ---- tools

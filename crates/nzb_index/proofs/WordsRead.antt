@@ -5,7 +5,7 @@ use Rattle.std.specs.List.{starts_with, list_all, list_any, prefix_len, concat, 
 use Rattle.std.proofs.lemmas.Bool.{ne_eqb, and_parts, and_from, or_parts, false_from_ne_true}
 use Rattle.std.proofs.lemmas.Bool.Decides.{nat_tests}
 use Rattle.std.proofs.lemmas.List.{length-append, nil_from_length}
-use Rattle.nzb_index.specs.Markup.{is_white, is_control, is_name_byte, IsWhite, IsMarkupName, IsMarkupComment, EndsAtFirst}
+use Rattle.nzb_writer.specs.Markup.{is_white, is_control, is_name_byte, IsWhite, IsMarkupName, IsMarkupComment, EndsAtFirst}
 use Rattle.nzb_index.specs.MarkupReading.{Stop, up_to, behind_white, between_or, name_at, ◌>>=◌}
 use Rattle.nzb_index.proofs.Words.{starts_front, front_starts}
 

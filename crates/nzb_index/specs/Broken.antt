@@ -2,8 +2,8 @@
 -- byte on is `here`.
 use Rattle.std.specs.Prelude.{◌≡◌, ◌≢◌, ℕ, Bool, not, ◌||◌, ◌==◌, List, [], ◌∷◌, ◌++◌, codes, IsTrue, IsFalse}
 use Rattle.std.specs.List.{list_any}
-use Rattle.nzb_index.specs.Markup.{is_white, is_control, is_name_byte, IsTextBytes, IsMarkupName, IsWhite}
-use Rattle.nzb_index.specs.Nzb.{IsDocumentType}
+use Rattle.nzb_writer.specs.Markup.{is_white, is_control, is_name_byte, IsTextBytes, IsMarkupName, IsWhite}
+use Rattle.nzb_writer.specs.Nzb.{IsDocumentType}
 
 -- a byte stands in front, and is none of these
 pub record OtherByte (allowed : ℕ → Bool) (here : List ℕ) : Type 0 where

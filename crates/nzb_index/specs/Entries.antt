@@ -1,11 +1,11 @@
 -- What the reading of files and entries over a slice answers.
 use Rattle.std.specs.Prelude.{◌≡◌, ℕ, ◌+◌, ◌≤◌, List, [], length, drop, Result, Ok, Err, codes}
 use Rattle.nzb_index.specs.declared.error.NzbError.{NzbError}
-use Rattle.nzb_index.specs.declared.index.FileEntry.{FileEntry}
-use Rattle.nzb_index.specs.declared.index.Index.{Index}
-use Rattle.nzb_index.specs.Markup.{attribute, number_of, or_nothing}
+use Rattle.nzb_writer.specs.declared.index.FileEntry.{FileEntry}
+use Rattle.nzb_writer.specs.declared.index.Index.{Index}
+use Rattle.nzb_writer.specs.Markup.{attribute, number_of, or_nothing}
 use Rattle.nzb_index.specs.MarkupReading.{Stop, ValueRead, parent, tag_at, ◌>>=◌}
-use Rattle.nzb_index.specs.Nzb.{file_checks, segment_count}
+use Rattle.nzb_writer.specs.Nzb.{file_checks, segment_count}
 use Rattle.nzb_index.specs.NzbReading.{file_part}
 use Rattle.nzb_index.specs.Readers.{Fails}
 use Rattle.limits.specs.declared.TheConstants.{MOST_SEGMENTS}

@@ -1,7 +1,4 @@
-pub mod Canonical
-pub mod Markup
 pub mod MarkupReading
-pub mod Nzb
 pub mod NzbReading
 pub mod Refusal
 pub mod Broken

@@ -5,7 +5,7 @@ use Rattle.std.specs.List.{list_any, prefix_len, starts_with}
 use Rattle.std.specs.Char.{is_ascii_digit, is_ascii_hexdigit}
 use Rattle.std.specs.Str.Parse.{digits_value}
 use Rattle.nzb_index.specs.declared.error.NzbReason.TheVariants.{Ended, Unexpected, BadReference, WrongTag, DoubleAttribute, BadNumber}
-use Rattle.nzb_index.specs.Markup.{is_white, is_control, is_name_byte, trimmed, is_character, Attribute, has_attribute, AttributeChecks}
+use Rattle.nzb_writer.specs.Markup.{is_white, is_control, is_name_byte, trimmed, is_character, Attribute, has_attribute, AttributeChecks}
 use Rattle.nzb_index.specs.declared.error.NzbReason.{NzbReason}
 use Rattle.nzb_index.specs.declared.error.NzbLimit.{NzbLimit}
 

@@ -2,13 +2,13 @@
 use Rattle.std.specs.Prelude.{ℕ, suc, ◌+◌, ◌-◌, true, nat_lt, nat_eq, ◌==◌, if◌then◌else◌, List, [], ◌∷◌, ◌++◌, length, Option, Some, None, Result, Ok, Err, codes, bytes_eq}
 use Rattle.std.specs.List.{starts_with}
 use Rattle.nzb_index.specs.declared.error.NzbReason.TheVariants.{WrongTag, NoNumber, BadId, Subset}
-use Rattle.nzb_index.specs.Markup.{is_control, is_message_id, attribute, has_attribute, or_nothing, number_of, unchecked}
-use Rattle.nzb_index.specs.Nzb.{segment_checks, file_checks, segment_count}
+use Rattle.nzb_writer.specs.Markup.{is_control, is_message_id, attribute, has_attribute, or_nothing, number_of, unchecked}
+use Rattle.nzb_writer.specs.Nzb.{segment_checks, file_checks, segment_count}
 use Rattle.nzb_index.specs.MarkupReading.{Stop, ValueRead, ◌>>=◌, stop_at, unexpected, word, up_to, name_at, one_white, between_or, between, tag_at, parent, leaf, only, no_fault, refused, limit}
-use Rattle.nzb_index.specs.declared.index.Meta.{Meta}
-use Rattle.nzb_index.specs.declared.index.Segment.{Segment}
-use Rattle.nzb_index.specs.declared.index.FileEntry.{FileEntry}
-use Rattle.nzb_index.specs.declared.index.Index.{Index}
+use Rattle.nzb_writer.specs.declared.index.Meta.{Meta}
+use Rattle.nzb_writer.specs.declared.index.Segment.{Segment}
+use Rattle.nzb_writer.specs.declared.index.FileEntry.{FileEntry}
+use Rattle.nzb_writer.specs.declared.index.Index.{Index}
 use Rattle.nzb_index.specs.declared.error.NzbReason.{NzbReason}
 use Rattle.nzb_index.specs.declared.error.NzbLimit.{NzbLimit}
 use Rattle.nzb_index.specs.declared.error.NzbLimit.TheVariants as limits

@@ -2,10 +2,10 @@
 use Rattle.std.specs.Prelude.{◌≡◌, ℕ, suc, ◌≤◌, List, [], length, drop, Result, Ok, Err, codes, ⊤}
 use Rattle.nzb_index.specs.declared.error.NzbError.{NzbError}
 use Rattle.nzb_index.specs.declared.error.NzbError.TheVariants.{Memory, Refused, Limit}
-use Rattle.nzb_index.specs.declared.index.Index.{Index}
-use Rattle.nzb_index.specs.Markup.{unchecked}
+use Rattle.nzb_writer.specs.declared.index.Index.{Index}
+use Rattle.nzb_writer.specs.Markup.{unchecked}
 use Rattle.nzb_index.specs.MarkupReading.{Stop, between, between_or, tag_at, parent, ◌>>=◌}
-use Rattle.nzb_index.specs.Nzb.{IsNzb}
+use Rattle.nzb_writer.specs.Nzb.{IsNzb}
 use Rattle.nzb_index.specs.NzbReading.{Refusal, refused_at, past, entry_item, behind_type, nothing_behind}
 use Rattle.nzb_index.specs.Readers.{Fails, ReadsTo}
 use Rattle.nzb_index.specs.Refusal.{IsTextRefused}

@@ -5,7 +5,7 @@ use Rattle.nzb_index.specs.declared.error.NzbError.{NzbError}
 use Rattle.nzb_index.specs.declared.error.NzbError.TheVariants.{Memory, Refused, Limit}
 use Rattle.nzb_index.specs.declared.error.NzbReason.TheVariants.{Ended, Unexpected}
 use Rattle.nzb_index.specs.MarkupReading.{Stop, refused, limit, between_or, with_front}
-use Rattle.nzb_index.specs.Markup.{is_character, is_control}
+use Rattle.nzb_writer.specs.Markup.{is_character, is_control}
 use Rattle.nzb_index.specs.declared.pieces.Piece.{Piece}
 use Rattle.nzb_index.specs.declared.pieces.Piece.TheVariants.{Goes, Ends}
 use Rattle.nzb_index.specs.declared.scan.Between.{Between}

@@ -5,9 +5,9 @@ use Rattle.std.specs.Prelude.{◌≡◌, ◌≢◌, ℕ, ◌-◌, ◌≤◌, Boo
 use Rattle.std.specs.List.{list_any}
 use Rattle.nzb_index.specs.declared.error.NzbReason.{NzbReason}
 use Rattle.nzb_index.specs.declared.error.NzbReason.TheVariants.{Ended, Unexpected, BadReference, WrongTag, DoubleAttribute, NoNumber, BadNumber, BadId, Subset}
-use Rattle.nzb_index.specs.Markup.{is_white, is_control, is_name_byte, is_message_id, IsWhite, IsMarkupName, IsBetween, IsReference, IsValue, IsElementText, Attribute, IsAttribute, AreAttributes, AreElements, has_attribute, AttributeChecks, unchecked}
-use Rattle.nzb_index.specs.Nzb.{segment_checks, file_checks, IsMeta, IsGroup, IsSegment, Lists, IsEntry, IsRoot, IsMark, IsDeclaration, IsDocumentType}
-use Rattle.nzb_index.specs.declared.index.Index.{Index}
+use Rattle.nzb_writer.specs.Markup.{is_white, is_control, is_name_byte, is_message_id, IsWhite, IsMarkupName, IsBetween, IsReference, IsValue, IsElementText, Attribute, IsAttribute, AreAttributes, AreElements, has_attribute, AttributeChecks, unchecked}
+use Rattle.nzb_writer.specs.Nzb.{segment_checks, file_checks, IsMeta, IsGroup, IsSegment, Lists, IsEntry, IsRoot, IsMark, IsDeclaration, IsDocumentType}
+use Rattle.nzb_writer.specs.declared.index.Index.{Index}
 use Rattle.nzb_index.specs.Broken.{OtherByte, BrokenWord, BrokenInside, BrokenBetween, BrokenDeclaration, BrokenType, BrokenEnd, NameEnds, OpensWith, ClosesWith, NoEndName, OpenEnd, OpensType}
 use Rattle.nzb_index.specs.declared.error.NzbLimit.{NzbLimit}
 use Rattle.nzb_index.specs.NzbReading.{refused_at, past}

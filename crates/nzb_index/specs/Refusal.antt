@@ -1,9 +1,9 @@
 -- What is refused of an NZB text, and where it is known.
 use Rattle.std.specs.Prelude.{◌≡◌, ℕ, ◌<◌, ◌≤◌, List, ◌++◌, length, take, ◌⊎◌, Err}
 use Rattle.nzb_index.specs.declared.error.NzbReason.TheVariants.{Ended}
-use Rattle.nzb_index.specs.declared.index.Index.{Index}
-use Rattle.nzb_index.specs.Nzb.{IsNzb}
-use Rattle.nzb_index.specs.Canonical.{IsValidIndex, nzb_text}
+use Rattle.nzb_writer.specs.declared.index.Index.{Index}
+use Rattle.nzb_writer.specs.Nzb.{IsNzb}
+use Rattle.nzb_writer.specs.Canonical.{IsValidIndex, nzb_text}
 use Rattle.nzb_index.specs.NzbReading.{Refusal, refused_at, nzb_of}
 use Rattle.limits.specs.declared.TheConstants.{MOST_TEXT_BYTES}
 

@@ -9,8 +9,8 @@ use Rattle.nzb_index.specs.declared.error.NzbError.{NzbError}
 use Rattle.nzb_index.specs.declared.tags.Element.{Element}
 use Rattle.nzb_index.specs.declared.tags.TheConstants.{FEW_NAMES}
 use Rattle.nzb_index.specs.declared.tags.Element.TheVariants.{Plain, File, Segment}
-use Rattle.nzb_index.specs.Markup.{Attribute, AttributeChecks, unchecked}
-use Rattle.nzb_index.specs.Nzb.{file_checks, segment_checks}
+use Rattle.nzb_writer.specs.Markup.{Attribute, AttributeChecks, unchecked}
+use Rattle.nzb_writer.specs.Nzb.{file_checks, segment_checks}
 use Rattle.nzb_index.specs.MarkupReading.{Stop, Tag}
 use Rattle.nzb_index.specs.Readers.{Fails}
 

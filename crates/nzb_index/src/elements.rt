@@ -1,7 +1,7 @@
 // Reading what stands between the tags of an NZB text.
 ghost use Rattle.std.specs.Prelude.{◌≡◌, ◌≤◌, length, drop, codes};
 ghost use Rattle.std.specs.List.{list_all};
-ghost use Rattle.nzb_index.specs.Markup.{is_id_byte, is_message_id, trimmed};
+ghost use Rattle.nzb_writer.specs.Markup.{is_id_byte, is_message_id, trimmed};
 ghost use Rattle.nzb_index.specs.MarkupReading.{end_tag, leaf, no_fault};
 ghost use Rattle.nzb_index.specs.NzbReading.{bad_id};
 ghost use Rattle.nzb_index.specs.Readers.{ReadsTo, ReadsValue};

@@ -3,7 +3,7 @@ ghost use Rattle.std.specs.Prelude.{◌≡◌, ◌≤◌, ◌<◌, ◌+◌, ◌-
 ghost use Rattle.nzb_index.specs.declared.error.NzbError.TheVariants.{Memory};
 ghost use Rattle.nzb_index.specs.MarkupReading.{parent};
 ghost use Rattle.nzb_index.specs.NzbReading.{entry_item, file_part, group_item, meta_item, segment_item};
-ghost use Rattle.nzb_index.specs.Nzb.{segment_count};
+ghost use Rattle.nzb_writer.specs.Nzb.{segment_count};
 ghost use Rattle.nzb_index.specs.Readers.{ReadsValue};
 ghost use Rattle.nzb_index.specs.Elements.{bare};
 ghost use Rattle.nzb_index.specs.Entries.{ReadsEntry, ReadsFile, file_at};
@@ -11,11 +11,12 @@ ghost use Rattle.limits.specs.declared.TheConstants.{MOST_SEGMENTS};
 
 use crate::elements::{Child, child_end, id_end, leaf_end, trimmed};
 use crate::scan::unexpected;
-use crate::tags::{Element, MOST, Scratch, refused, tag_end};
-use crate::{FileEntry, Index, Meta, NzbError, NzbLimit, NzbReason, Segment};
-use limits::{MOST_FILES, MOST_SEGMENTS};
+use crate::tags::{Element, Scratch, refused, tag_end};
+use crate::{NzbError, NzbLimit, NzbReason};
+use limits::{LAST_MOMENT, MOST_FILES, MOST_OCTETS, MOST_SEGMENTS};
 use lists::{Bytes, List};
 use nntp_lines::MessageId;
+use nzb_writer::{FileEntry, Index, Meta, Segment};
 use std::alloc::Global;
 
 // ---- the head
@@ -172,7 +173,7 @@ fn segment_end(
         return Err(refused(from, NzbReason::NoNumber));
     }
     let number = scratch.number(b"number", u64::from(u32::MAX)) as u32;
-    let bytes = scratch.number(b"bytes", MOST);
+    let bytes = scratch.number(b"bytes", MOST_OCTETS);
     let end = id_end(text, at, closed, from, &mut scratch.bytes)?;
     let Some(id) = MessageId::new(trimmed(scratch.bytes.as_slice())) else {
         unreachable!();
@@ -319,7 +320,7 @@ fn file_end(
     let subject = copy(alloc, scratch.value(b"subject"))?;
     let mut file = FileEntry {
         poster,
-        date: scratch.number(b"date", MOST),
+        date: scratch.number(b"date", LAST_MOMENT),
         subject,
         groups: List::new(alloc),
         segments: List::new(alloc),

@@ -1,10 +1,10 @@
 // Reading an NZB text.
 ghost use Rattle.std.specs.Prelude.{◌≡◌, ◌≤◌, ◌⊎◌, Ok, Err, IfOk, length, drop};
 ghost use Rattle.nzb_index.specs.declared.error.NzbError.TheVariants.{Memory as NoMemory};
-ghost use Rattle.nzb_index.specs.declared.index.Index.{Index};
-ghost use Rattle.nzb_index.specs.Canonical.{IsValidIndex};
+ghost use Rattle.nzb_writer.specs.declared.index.Index.{Index};
+ghost use Rattle.nzb_writer.specs.Canonical.{IsValidIndex};
 ghost use Rattle.nzb_index.specs.MarkupReading.{one_white};
-ghost use Rattle.nzb_index.specs.Nzb.{IsNzb};
+ghost use Rattle.nzb_writer.specs.Nzb.{IsNzb};
 ghost use Rattle.nzb_index.specs.NzbReading.{Refusal, behind_declaration, behind_mark, behind_type, index_at, type_end};
 ghost use Rattle.nzb_index.specs.Readers.{ReadsTo};
 ghost use Rattle.nzb_index.specs.Refusal.{IsTextRefused};
@@ -16,9 +16,10 @@ use crate::scan::{
     word_end,
 };
 use crate::tags::{Element, Scratch, refused, tag_end};
-use crate::{Index, NzbError, NzbLimit, NzbReason};
+use crate::{NzbError, NzbLimit, NzbReason};
 use limits::MOST_TEXT_BYTES;
 use lists::List;
+use nzb_writer::Index;
 use std::alloc::Global;
 
 /// Reads the index of an NZB text (NZB 1.1), once from left to right. A text that is none is refused for the reason that is

@@ -2,7 +2,7 @@
 ghost use Rattle.std.specs.Prelude.{◌≡◌, ◌≢◌, ◌<◌, ◌≤◌, ◌+◌, ◌*◌, ◌⊎◌, length, drop, codes, find, nat_eq, IsTrue};
 ghost use Rattle.std.specs.List.{list_any, starts_with};
 ghost use Rattle.std.specs.Char.{digit_value, is_ascii_hexdigit};
-ghost use Rattle.nzb_index.specs.Markup.{is_character};
+ghost use Rattle.nzb_writer.specs.Markup.{is_character};
 ghost use Rattle.nzb_index.specs.MarkupReading.{digits_at, named, reference_at, references};
 ghost use Rattle.nzb_index.specs.Readers.{ReadsReference, capped, is_digit_of};
 

@@ -1,7 +1,7 @@
 // Reading the small forms of an NZB text over a slice: white, words, names, comments.
 ghost use Rattle.std.specs.Prelude.{◌≡◌, ◌≤◌, ◌⊎◌, Ok, length, drop, codes, nat_eq};
 ghost use Rattle.std.specs.List.{starts_with};
-ghost use Rattle.nzb_index.specs.Markup.{is_control, is_name_byte, is_white};
+ghost use Rattle.nzb_writer.specs.Markup.{is_control, is_name_byte, is_white};
 ghost use Rattle.nzb_index.specs.MarkupReading.{behind_white, between, name_at, up_to, word};
 ghost use Rattle.nzb_index.specs.Readers.{EndsBetween, ReadsName, ReadsTo, unexpected_at};
 

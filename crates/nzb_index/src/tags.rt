@@ -1,7 +1,7 @@
 // Reading the start tags of an NZB text.
 ghost use Rattle.std.specs.Prelude.{◌≡◌, ◌≤◌, ◌<◌, length, drop, not, true, is_some, Err, IfOk, OnErr, OnOk, ◌++◌, ◌∷◌, []};
 ghost use Rattle.std.specs.Bool.{OnTrue, OnFalse};
-ghost use Rattle.nzb_index.specs.Markup.{attribute, has_attribute, or_nothing};
+ghost use Rattle.nzb_writer.specs.Markup.{attribute, has_attribute, or_nothing};
 ghost use Rattle.nzb_index.specs.MarkupReading.{attribute_at, quoted_at, tag_at};
 ghost use Rattle.nzb_index.specs.Readers.{ReadsValue};
 ghost use Rattle.nzb_index.specs.Tags.{HasLater, ReadsAttribute, ReadsTag, attributes_of, checks_of, place_of};
@@ -12,13 +12,11 @@ ghost use Rattle.numbers.specs.Numbers.{decimal_of, within, or_zero};
 use crate::pieces::value_end;
 use crate::scan::{name_end, starts_at, unexpected, white_end, word_end};
 use crate::{NzbError, NzbReason};
+use limits::{LAST_MOMENT, MOST_OCTETS};
 use lists::{Bytes, Lines};
 use numbers::read_dec;
 use std::alloc::Global;
 use std::collections::BTreeSet;
-
-// The greatest number of a date and of a length in bytes.
-pub(crate) const MOST: u64 = 999_999_999_999;
 
 // So many names of a tag are compared one by one. The later ones are kept in order too, where a tag has that many.
 const FEW_NAMES: usize = 16;
@@ -233,12 +231,12 @@ fn allows(element: Element, name: &[u8], value: &[u8]) -> bool
 {
     match element {
         Element::Plain => true,
-        Element::File => name != b"date".as_slice() || read_dec(value, MOST).is_some(),
+        Element::File => name != b"date".as_slice() || read_dec(value, LAST_MOMENT).is_some(),
         Element::Segment => {
             if name == b"number".as_slice() {
                 return is_number(value);
             }
-            name != b"bytes".as_slice() || read_dec(value, MOST).is_some()
+            name != b"bytes".as_slice() || read_dec(value, MOST_OCTETS).is_some()
         }
     }
 }

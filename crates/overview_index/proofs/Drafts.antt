@@ -13,6 +13,7 @@ use Rattle.std.proofs.lemmas.Option.{none-some}
 use Rattle.overview_index.specs.Draft.{HasSegmentMore, IsBegunBy, IsDraftOf, IsSameDraft}
 use Rattle.overview_index.specs.Group.{Counted, Key, has_key, number_of, segment_of}
 use Rattle.overview_index.specs.declared.draft.Draft.{Draft}
+use Rattle.limits.specs.declared.TheConstants.{LAST_MOMENT}
 
 abbrev numbered : ℕ → Counted → Bool
 numbered n a = number_of a == n
@@ -49,7 +50,7 @@ begun_same : (first : Counted) (old new : Draft) → IsSameDraft old new → IsB
 begun_same first old new same is = record {
   poster = same.poster ∙ is.poster;
   date = same.date ∙ is.date;
-  late = subst (λ n. n ≤ 999999999999) (sym same.date) is.late;
+  late = subst (λ n. n ≤ LAST_MOMENT) (sym same.date) is.late;
   subject = same.subject ∙ is.subject;
 }
 
@@ -114,7 +115,7 @@ draft_more k a articles old new e absent more is = record {
   begun = record {
     poster = more.poster ∙ is.begun.poster;
     date = more.date ∙ is.begun.date;
-    late = subst (λ n. n ≤ 999999999999) (sym more.date) is.begun.late;
+    late = subst (λ n. n ≤ LAST_MOMENT) (sym more.date) is.begun.late;
     subject = more.subject ∙ is.begun.subject;
   };
   ordered = more.ordered;

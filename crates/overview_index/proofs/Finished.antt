@@ -11,8 +11,8 @@ use Rattle.std.proofs.lemmas.List.Elements.{recursion_from_All}
 use Rattle.std.proofs.lemmas.Map.Entries.{btree_map_get_place}
 use Rattle.std.proofs.lemmas.Map.Keys.{IsStrictlyIncreasing-from_sorted}
 use Rattle.std.proofs.lemmas.Option.{none-some, same_Some, slice_get-get_or}
-use Rattle.nzb_index.specs.declared.index.Index.{Index}
-use Rattle.nzb_index.specs.declared.index.Segment.{Segment}
+use Rattle.nzb_writer.specs.declared.index.Index.{Index}
+use Rattle.nzb_writer.specs.declared.index.Segment.{Segment}
 use Rattle.overview_lines.specs.OverLine.{Over}
 use Rattle.overview_index.specs.Draft.{IsDraftOf, entry_of}
 use Rattle.overview_index.specs.Group.{AreSegments, Counted, IsFileOf, IsIndexOfLines, Key, counted_in, has_key, keys_of, number_of, segment_of}

@@ -3,8 +3,8 @@ use Rattle.std.proofs.Common.{◌≡◌, ℕ, zero, suc, ◌==◌, inl, inr, Lis
 use Rattle.std.specs.Prelude.{codes}
 use Rattle.std.specs.List.Sorted.{IsStrictlyIncreasing}
 use Rattle.std.proofs.lemmas.Bool.{cases_eq, ne_eqb}
-use Rattle.nzb_index.specs.declared.index.FileEntry.{FileEntry}
-use Rattle.nzb_index.specs.declared.index.Segment.{Segment}
+use Rattle.nzb_writer.specs.declared.index.FileEntry.{FileEntry}
+use Rattle.nzb_writer.specs.declared.index.Segment.{Segment}
 use Rattle.overview_lines.specs.Count.{count_at, count_of, last_count, number_before}
 use Rattle.overview_lines.specs.Date.{date_of, seconds_of, words_from, words_of}
 use Rattle.overview_lines.specs.DateParts.{year_of}

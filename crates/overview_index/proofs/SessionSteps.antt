@@ -9,7 +9,7 @@ use Rattle.io_traits.specs.declared.links.LinkEvent.{LinkEvent}
 use Rattle.nntp_lines.specs.declared.group.GroupReply.{GroupReply}
 use Rattle.nntp_lines.specs.declared.why.Why.{Why}
 use Rattle.nntp_lines.specs.declared.why.Why.TheVariants as why
-use Rattle.nzb_index.specs.declared.index.Index.{Index}
+use Rattle.nzb_writer.specs.declared.index.Index.{Index}
 use Rattle.link_dialog.specs.declared.dialog.Dialog.{Dialog}
 use Rattle.link_dialog.specs.Dialog.{Message, answers_of}
 use Rattle.link_dialog.specs.Replies.{Reply}

@@ -12,13 +12,13 @@ use Rattle.std.proofs.lemmas.List.Sums.{suffix_len_is, sum_by-cons}
 use Rattle.std.proofs.lemmas.Map.Entries.{length-values_of}
 use Rattle.nntp_lines.specs.GroupName.{IsGroupName}
 use Rattle.nntp_lines.specs.MessageId.{IsMessageId, is_id_byte}
-use Rattle.nzb_index.specs.Canonical.{IsValidFile, IsValidIndex}
-use Rattle.nzb_index.specs.Markup.{IsTextBytes, is_control, is_message_id, is_white, trimmed}
-use Rattle.nzb_index.specs.Markup as nzb
-use Rattle.nzb_index.specs.declared.index.FileEntry.{FileEntry}
-use Rattle.nzb_index.specs.declared.index.Index.{Index}
-use Rattle.nzb_index.specs.declared.index.Segment.{Segment}
-use Rattle.nzb_index.proofs.ValidTexts.{group_is_valid, id_is_valid, plain_text}
+use Rattle.nzb_writer.specs.Canonical.{IsValidFile, IsValidIndex}
+use Rattle.nzb_writer.specs.Markup.{IsTextBytes, is_control, is_message_id, is_white, trimmed}
+use Rattle.nzb_writer.specs.Markup as nzb
+use Rattle.nzb_writer.specs.declared.index.FileEntry.{FileEntry}
+use Rattle.nzb_writer.specs.declared.index.Index.{Index}
+use Rattle.nzb_writer.specs.declared.index.Segment.{Segment}
+use Rattle.nzb_writer.proofs.ValidTexts.{group_is_valid, id_is_valid, plain_text}
 use Rattle.overview_lines.specs.OverLine.{Over}
 use Rattle.overview_index.specs.Draft.{IsDraftOf, entry_of}
 use Rattle.overview_index.specs.Group.{Counted, Key, counted_in, has_key, keys_of, number_of, segment_of}
@@ -26,11 +26,12 @@ use Rattle.overview_index.specs.Grouper.{IsEntryOf, IsArticleRead, HasGrouped, c
 use Rattle.overview_index.specs.declared.draft.Draft.{Draft}
 use Rattle.overview_index.specs.declared.grouper.Grouper.{Grouper}
 use Rattle.overview_index.proofs.Finished.{ComesFrom, find-holds, segments_come}
+use Rattle.limits.specs.declared.TheConstants.{MOST_OCTETS}
 
 -- ---- segments
 
 abbrev IsValidSegment : Segment → Type 0
-IsValidSegment s = (1 ≤ s.number) × (s.number ≤ 4294967295) × (s.bytes ≤ 999999999999) × (is_message_id s.id ≡ true)
+IsValidSegment s = (1 ≤ s.number) × (s.number ≤ 4294967295) × (s.bytes ≤ MOST_OCTETS) × (is_message_id s.id ≡ true)
 
 read_segment : (a : Counted) → IsArticleRead a → IsValidSegment (segment_of a)
 read_segment a read = (read.some, omega (arith, read.short), read.over.bytes, id_is_valid a.over.id read.over.id)

@@ -3,7 +3,7 @@ use Rattle.std.specs.Prelude.{◌≡◌, ℕ, ◌≤◌, ◌+◌, ◌<◌, ◌==
 use Rattle.std.specs.BTreeMap.{IsOrdered, Updates, btree_map_len, get, values}
 use Rattle.std.specs.Option.{option_map}
 use Rattle.std.specs.Ordering.{nat_cmp}
-use Rattle.nzb_index.specs.declared.index.FileEntry.{FileEntry}
+use Rattle.nzb_writer.specs.declared.index.FileEntry.{FileEntry}
 use Rattle.overview_lines.specs.OverLine.{over_in}
 use Rattle.overview_lines.specs.declared.count.Count.{Count}
 use Rattle.overview_lines.specs.declared.over.OverLine.{OverLine}
@@ -13,7 +13,7 @@ use Rattle.overview_index.specs.declared.added.Added.TheVariants.{New, Repeat, N
 use Rattle.overview_index.specs.declared.added.GroupError.{GroupError}
 use Rattle.overview_index.specs.declared.added.GroupError.TheVariants.{Memory, Segments, Files}
 use Rattle.overview_index.specs.declared.draft.Draft.{Draft}
-use Rattle.limits.specs.declared.TheConstants.{MOST_SEGMENTS}
+use Rattle.limits.specs.declared.TheConstants.{LAST_MOMENT, MOST_SEGMENTS}
 
 -- the article of a line that was read, with the count of its subject
 abbrev pub article_in : OverLine → Count → Counted
@@ -23,7 +23,7 @@ article_in line count = record { over = over_in line; count = count }
 pub record IsBegunBy (first : Counted) (draft : Draft) : Type 0 where
   pub poster : draft.poster ≡ first.over.from
   pub date : draft.date ≡ seconds_of first.over.date
-  pub late : draft.date ≤ 999999999999
+  pub late : draft.date ≤ LAST_MOMENT
   pub subject : draft.subject ≡ first.over.subject
 
 -- the file of the articles with a key

@@ -3,8 +3,8 @@ use Rattle.std.specs.Prelude.{◌≡◌, ℕ, ◌≤◌, ◌+◌, ◌<◌, ◌�
 use Rattle.std.specs.BTreeMap.{btree_map_len}
 use Rattle.std.specs.List.{AllZip}
 use Rattle.std.specs.Map.{lookup, set_value, values_of}
-use Rattle.nzb_index.specs.Canonical.{IsValidIndex}
-use Rattle.nzb_index.specs.declared.index.Index.{Index}
+use Rattle.nzb_writer.specs.Canonical.{IsValidIndex}
+use Rattle.nzb_writer.specs.declared.index.Index.{Index}
 use Rattle.overview_lines.specs.OverLine.{IsReadLine, Over, is_plain}
 use Rattle.overview_index.specs.Draft.{AddsArticle, IsBegunBy, IsDraftOf}
 use Rattle.overview_index.specs.Group.{BringsSegment, Counted, WouldPass, IsIndexOfLines, IsRepeat, Key, counted, counted_in, keys_of, number_of, parts_of, segment_of}

@@ -7,7 +7,7 @@ ghost use Rattle.overview_index.specs.Group.{segment_of};
 use crate::{Added, GroupError};
 use limits::MOST_SEGMENTS;
 use lists::{Bytes, List, Memory, bytes_of};
-use nzb_index::{FileEntry, Segment};
+use nzb_writer::{FileEntry, Segment};
 use overview_lines::{Count, OverLine, read_date};
 use std::alloc::Global;
 use std::collections::BTreeMap;

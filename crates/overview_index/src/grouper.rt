@@ -13,7 +13,7 @@ use indexmap::IndexMap;
 use limits::{MOST_FILES, MOST_SEGMENTS};
 use lists::{Bytes, List, Memory};
 use nntp_lines::GroupName;
-use nzb_index::Index;
+use nzb_writer::Index;
 use overview_lines::{Count, OverLine, count_of};
 use std::alloc::Global;
 

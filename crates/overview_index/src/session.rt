@@ -4,7 +4,7 @@ ghost use Rattle.std.specs.Option.{option_copied};
 ghost use Rattle.nntp_lines.specs.Command.{IsArticleNumber};
 ghost use Rattle.nntp_lines.specs.declared.group.GroupReply.{GroupReply as GroupNumbers};
 ghost use Rattle.link_dialog.specs.Talk.{OpeningFailed, Start, link_of_dialog};
-ghost use Rattle.nzb_index.specs.Canonical.{IsValidIndex};
+ghost use Rattle.nzb_writer.specs.Canonical.{IsValidIndex};
 ghost use Rattle.overview_index.specs.Session.{Query, IndexEnds, OnNoLink, ranges_in};
 ghost use Rattle.overview_index.specs.Asking.{error_of, ComesOnLink, KeepsLiveIf, RangeEnds, RangesEnd, IndexUnderWay};
 
@@ -14,7 +14,7 @@ use crate::asking::{Asked, Chosen, ask, choose, quit};
 use io_traits::Links;
 use link_dialog::{Dialog, NotOpen};
 use nntp_lines::{GroupName, Login, Why};
-use nzb_index::Index;
+use nzb_writer::Index;
 use std::alloc::Global;
 
 // How many numbers of articles are asked for at once.

@@ -12,6 +12,7 @@ use Rattle.overview_lines.specs.OverReading.{fields_of, id_of, over_of, over_sai
 use Rattle.overview_lines.proofs.Digits.{within_parts}
 use Rattle.overview_lines.proofs.IdField.{found_is_read, id_is_read, read_is_id}
 use Rattle.overview_lines.proofs.OverFields.{few_are_unread, fields_are_read, fields_are_short, read_are_fields, split_are_fields, unread_are_few}
+use Rattle.limits.specs.declared.TheConstants.{MOST_ARTICLE, MOST_OCTETS}
 
 none_number : {a : ℕ} → None ≡ Some a → ⊥
 none_number e = cc
@@ -156,14 +157,14 @@ over_or_fault line = by_length (nat_le (length line) 4096) refl
 
 -- ---- what is answered
 
-bytes_most : (field : List ℕ) (n : ℕ) → bytes_of field ≡ Some n → n ≤ 999999999999
+bytes_most : (field : List ℕ) (n : ℕ) → bytes_of field ≡ Some n → n ≤ MOST_OCTETS
 bytes_most [] n is = let zero_is : 0 ≡ n = some_number is in omega (arith, zero_is)
-bytes_most (d ∷ ds) n is = (within_parts 0 999999999999 (decimal_of (d ∷ ds)) n is).2
+bytes_most (d ∷ ds) n is = (within_parts 0 MOST_OCTETS (decimal_of (d ∷ ds)) n is).2
 
 -- a line that says something keeps to the limits
 pub line_is_over : (line : List ℕ) (over : Over) → IsOverLine line over → IsReadLine over
 line_is_over line over h =
-    let number = within_parts 1 9999999999999999 (decimal_of h.fields.number) over.number h.number in
+    let number = within_parts 1 MOST_ARTICLE (decimal_of h.fields.number) over.number h.number in
     let short = fields_are_short line h.fields h.has in
     record {
       number_least = number.1;

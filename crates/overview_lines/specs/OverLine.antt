@@ -7,6 +7,7 @@ use Rattle.nntp_lines.specs.MessageId.{IsMessageId}
 use Rattle.overview_lines.specs.declared.over.OverLine.{OverLine}
 use Rattle.overview_lines.specs.declared.over.OverFault.{OverFault}
 use Rattle.overview_lines.specs.declared.over.OverFault.TheVariants.{TooLong, TooFewFields, BadNumber, BadText, BadId}
+use Rattle.limits.specs.declared.TheConstants.{MOST_ARTICLE, MOST_OCTETS}
 
 -- what is read of a line; the message-id is given without its angle brackets
 pub record Over : Type 0 where
@@ -51,7 +52,7 @@ pub record HasFields (line : List ℕ) (f : Fields) : Type 0 where
 
 -- the number of an article, of up to 16 digits; leading zeros may stand
 abbrev pub number_of : List ℕ → Option ℕ
-number_of field = within 1 9999999999999999 (decimal_of field)
+number_of field = within 1 MOST_ARTICLE (decimal_of field)
 
 -- no byte is below 32, as a control character is
 abbrev pub is_plain : List ℕ → Bool
@@ -65,7 +66,7 @@ pub record IsIdField (field : List ℕ) (id : List ℕ) : Type 0 where
 -- how many bytes an article has; where nothing is said it is 0
 abbrev pub bytes_of : List ℕ → Option ℕ
 bytes_of [] = Some 0
-bytes_of (digit ∷ digits) = within 0 999999999999 (decimal_of (digit ∷ digits))
+bytes_of (digit ∷ digits) = within 0 MOST_OCTETS (decimal_of (digit ∷ digits))
 
 -- ---- what a line says
 
@@ -107,9 +108,9 @@ pub record IsOverText (text : List ℕ) : Type 0 where
 -- what any line that was read says
 pub record IsReadLine (over : Over) : Type 0 where
   pub number_least : 1 ≤ over.number
-  pub number_most : over.number ≤ 9999999999999999
+  pub number_most : over.number ≤ MOST_ARTICLE
   pub subject : IsOverText over.subject
   pub from : IsOverText over.from
   pub date : IsOverText over.date
   pub id : IsMessageId over.id
-  pub bytes : over.bytes ≤ 999999999999
+  pub bytes : over.bytes ≤ MOST_OCTETS

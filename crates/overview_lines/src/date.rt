@@ -3,6 +3,7 @@ ghost use Rattle.std.specs.Prelude.{◌≡◌, ◌≤◌, ℕ, length, MatchOpti
 ghost use Rattle.std.specs.Char.{is_ascii_alphabetic};
 ghost use Rattle.std.specs.List.{list_all, position_or_len, prefix_len};
 ghost use Rattle.overview_lines.specs.Date.{IsDate, behind_word, date_of, day_in, first_word, is_space, is_weekday, seconds_of, words_from, words_in, words_of};
+ghost use Rattle.limits.specs.declared.TheConstants.{LAST_MOMENT};
 
 use crate::date_parts::{day_of, month_of, time_of, year_of, zone_of};
 use jiff::civil::Date;
@@ -25,7 +26,7 @@ struct DateWords<'a> {
 pub fn read_date(text: &[u8]) -> Option<u64>
     ensures reading { result ≡ date_of text.now }
     ensures date { MatchOption result ((seconds : ℕ) → ¬ IsDate text.now seconds) (IsDate text.now) }
-    ensures late { IfSome result (λ seconds. seconds ≤ 999999999999) }
+    ensures late { IfSome result (λ seconds. seconds ≤ LAST_MOMENT) }
 {
     seconds_of(words_of(text))
 }
@@ -34,7 +35,7 @@ pub fn read_date(text: &[u8]) -> Option<u64>
 #[tactic(auto, unfolding(crate::specs::Date::seconds_of))]
 fn seconds_of(words: DateWords<'_>) -> Option<u64>
     ensures reading { result ≡ seconds_of (words_in words.entry) }
-    ensures late { IfSome result (λ seconds. seconds ≤ 999999999999) }
+    ensures late { IfSome result (λ seconds. seconds ≤ LAST_MOMENT) }
 {
     let year = year_of(words.year)?;
     let day = day_of(words.day)?;

@@ -4,22 +4,17 @@ ghost use Rattle.std.specs.List.{slice_split};
 ghost use Rattle.overview_lines.specs.OverLine.{HasOverFault, IsIdField, IsReadLine, IsOverLine, bytes_of, is_plain, is_tab, number_of, over_in};
 ghost use Rattle.overview_lines.specs.OverReading.{fields_in, fields_of, id_of, over_of, over_said};
 
+use limits::{MOST_ARTICLE, MOST_OCTETS};
 use nntp_lines::MessageId;
 use numbers::read_dec;
 
 // The greatest length of a line in bytes, without CRLF.
 const MOST: usize = 4096;
 
-// The greatest number of an article.
-const MOST_NUMBER: u64 = 9_999_999_999_999_999;
-
-// The greatest number of bytes of an article.
-const MOST_BYTES: u64 = 999_999_999_999;
-
 /// What a line of an overview says of an article (RFC 3977, 8.3.2).
 #[derive(Debug, Drop)]
 pub struct OverLine<'a> {
-    /// The number of the article, from 1 to 9,999,999,999,999,999.
+    /// The number of the article, from 1 to `MOST_ARTICLE`.
     pub number: u64,
     /// The subject, without a byte below 32.
     pub subject: &'a [u8],
@@ -29,7 +24,7 @@ pub struct OverLine<'a> {
     pub date: &'a [u8],
     /// The message-id.
     pub id: MessageId,
-    /// How many bytes it has, up to 999,999,999,999; 0 where the line doesn't say.
+    /// How many bytes it has, up to `MOST_OCTETS`; 0 where the line doesn't say.
     pub bytes: u64,
 }
 
@@ -155,7 +150,7 @@ fn over_said(fields: LineFields<'_>) -> Result<OverLine<'_>, OverFault>
 fn number_of(field: &[u8]) -> Option<u64>
     ensures { result ≡ number_of field.now }
 {
-    match read_dec(field, MOST_NUMBER) {
+    match read_dec(field, MOST_ARTICLE) {
         Some(number) if number >= 1 => Some(number),
         _ => None,
     }
@@ -190,5 +185,5 @@ fn bytes_of(field: &[u8]) -> Option<u64>
     if field.is_empty() {
         return Some(0);
     }
-    read_dec(field, MOST_BYTES)
+    read_dec(field, MOST_OCTETS)
 }

@@ -1,5 +1,5 @@
 // What is looked at in the files of an index.
-use nzb_index::{FileEntry, Index};
+use nzb_writer::{FileEntry, Index};
 
 /// What a file of an index is to hold, beside the newsgroup `a.b` alone.
 pub(crate) struct FileSaid<'a> {

@@ -7,6 +7,7 @@ use Rattle.pipeline_core.specs.PipelineAt.{Pipeline}
 use Rattle.pipeline_core.specs.Pipeline.{next_segment}
 use Rattle.pipeline_core.specs.Sound.{IsPlaced}
 use Rattle.pipeline_core.proofs.Free.{IsNext, is_next}
+use Rattle.limits.specs.declared.TheConstants.{MOST_SERVERS}
 
 pub link_read : {p now : Pipeline} (i : ℕ) (link : LinkAt) → p ≡ now → i < length now.links → link ≡ get_or p.links i link → slice_get p.links i ≡ Some link
 link_read {p} {now} i link same there value =
@@ -24,7 +25,7 @@ asker_read {p} {now} i k link same within next value =
     let asks : next_segment p i ≡ Some k = ap (λ (q : Pipeline). next_segment q i) same ∙ next in
     record { there = there; asks = asks; next = is_next p i k link there asks }
 
-pub low_read : {p now : Pipeline} (server : ℕ) (lows : List ℕ) (fresh decided : ℕ) → p ≡ now → server < length now.levels → length p.levels ≤ 16 → IsPlaced p lows fresh decided → slice_get lows server ≡ Some (get_or lows server 0)
+pub low_read : {p now : Pipeline} (server : ℕ) (lows : List ℕ) (fresh decided : ℕ) → p ≡ now → server < length now.levels → length p.levels ≤ MOST_SERVERS → IsPlaced p lows fresh decided → slice_get lows server ≡ Some (get_or lows server 0)
 low_read {p} {now} server lows fresh decided same there few placed =
     let within : server < length p.levels = subst (λ (q : Pipeline). server < length q.levels) (sym same) there in
     slice_get-get_or lows server 0 (omega (arith, within, few, placed.as_many))

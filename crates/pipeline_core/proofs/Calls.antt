@@ -14,10 +14,10 @@ use Rattle.pipeline_core.specs.Searches.{is_arrived_at, is_answered_at, forgotte
 use Rattle.pipeline_core.specs.declared.state.Outcome.{Outcome}
 use Rattle.pipeline_core.specs.Pipeline.{unanswered, with_arrival, with_links, with_outcome, server_on, server_of, after_reply, after_settling}
 use Rattle.pipeline_core.specs.Sound.{AreIdle, IsExclusive, IsLimited, AreSoundLists}
-use Rattle.pipeline_core.proofs.OnePlace.{get-set_other, get-set_same}
+use Rattle.lists.proofs.OnePlace.{get-set_other, get-set_same}
 use Rattle.pipeline_core.proofs.Exclusive.{set-edit, times-append, times-set, no_holder, none_held, holder-kept, holder-new, holder-here, one_of_all}
 use Rattle.pipeline_core.proofs.Free.{IsNext}
-use Rattle.limits.specs.declared.TheConstants.{MOST_SEGMENTS}
+use Rattle.limits.specs.declared.TheConstants.{MOST_DEPTH, MOST_LINKS, MOST_SEGMENTS, MOST_SERVERS}
 
 limited-set : (links : List LinkAt) (segments after : List SegmentAt) (levels : List ℕ) (depth i : ℕ) (old new : LinkAt) → IsLimited links segments levels depth → slice_get links i ≡ Some old → new.server ≡ old.server → length new.asked ≤ depth → length after ≡ length segments → IsLimited (set links i new) after levels depth
 limited-set links segments after levels depth i old new limited is server few same = record {
@@ -291,7 +291,7 @@ fresh_idle [] k link is = cc
 fresh_idle (server ∷ rest) zero link is = let same : fresh_link server ≡ link = cc in ap (λ (l : LinkAt). l.asked) (sym same)
 fresh_idle (server ∷ rest) (suc k) link is = fresh_idle rest k link is
 
-pub sound-start : (server_of_link levels : List ℕ) (n depth : ℕ) → length levels ≤ 16 → length server_of_link ≤ 64 → n ≤ MOST_SEGMENTS → depth ≤ 32 → ((j : ℕ) → j < length server_of_link → slice_index server_of_link j < length levels) → AreSoundLists (map fresh_link server_of_link) (replicate n unanswered) (replicate n None) levels depth
+pub sound-start : (server_of_link levels : List ℕ) (n depth : ℕ) → length levels ≤ MOST_SERVERS → length server_of_link ≤ MOST_LINKS → n ≤ MOST_SEGMENTS → depth ≤ MOST_DEPTH → ((j : ℕ) → j < length server_of_link → slice_index server_of_link j < length levels) → AreSoundLists (map fresh_link server_of_link) (replicate n unanswered) (replicate n None) levels depth
 sound-start server_of_link levels n depth few_servers few_links few small each = record {
   exclusive = record {
     once = λ s. rw (no_times server_of_link s) (omega arith);

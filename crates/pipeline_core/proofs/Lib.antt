@@ -1,4 +1,3 @@
-pub mod OnePlace
 pub mod Searching
 pub mod Exclusive
 pub mod Free

@@ -17,13 +17,14 @@ use Rattle.pipeline_core.specs.declared.state.SegmentState.{SegmentState}
 use Rattle.pipeline_core.specs.declared.state.SegmentState.TheVariants.{Open, Outstanding, Arrived, Exhausted}
 use Rattle.pipeline_core.specs.Pipeline.{is_spent, state_by, is_open, is_decided, can_be_asked, segment_state, after_greeting, after_next, after_over, after_reply, server_on, server_of, unanswered, with_arrival, with_outcome, after_settling, start, is_finished}
 use Rattle.pipeline_core.specs.Sound.{IsExclusive, IsPlaced, IsUnaskedOrArrived, HasFallen}
-use Rattle.pipeline_core.proofs.OnePlace.{get-set_other, get-set_same}
+use Rattle.lists.proofs.OnePlace.{get-set_other, get-set_same}
 use Rattle.pipeline_core.proofs.Searching.{all_of, not_all, first_least, first_none_at, first_found, first_window}
 use Rattle.pipeline_core.proofs.Exclusive.{times-append, one_of_all, holder-new, holder-here, none_held, no_holder, set-edit}
 use Rattle.pipeline_core.proofs.Calls.{one_time, no_times, first_place, get-replicate}
 use Rattle.pipeline_core.proofs.Free.{IsNext, held_cannot, arrived_cannot, answered_cannot}
 use Rattle.pipeline_core.proofs.Full.{can_stays, get-edit_other}
 use Rattle.pipeline_core.proofs.Alike.{left-kept, spent-more, state-same, can-same, holder-edit, times-other, times-rest, none-after}
+use Rattle.limits.specs.declared.TheConstants.{MOST_SERVERS}
 
 -- a segment that was never asked for and hasn't arrived is one of which nothing is known
 untouched_open : (o : Option SegmentAt) → IsUnaskedOrArrived o → is_arrived_at o ≡ false → o ≡ Some unanswered
@@ -64,7 +65,7 @@ new_low lows server new low below read =
     let same : Some low ≡ Some new = sym read ∙ there in cc
 
 -- a link was asked for the segment that was found for it
-pub placed-next : (p : Pipeline) (i k : ℕ) (old : LinkAt) (lows : List ℕ) (fresh after decided : ℕ) → slice_get p.links i ≡ Some old → IsNext p old k → first_from (can_be_asked p old.server) 0 (length p.segments) ≡ Some k → old.server < 16 → fresh ≤ after → k < after → (after < length p.segments → is_arrived_at (slice_get p.segments after) ≡ false) → IsPlaced p lows fresh decided → IsPlaced (after_next p i (Some k)) (set lows old.server (k + 1)) after decided
+pub placed-next : (p : Pipeline) (i k : ℕ) (old : LinkAt) (lows : List ℕ) (fresh after decided : ℕ) → slice_get p.links i ≡ Some old → IsNext p old k → first_from (can_be_asked p old.server) 0 (length p.segments) ≡ Some k → old.server < MOST_SERVERS → fresh ≤ after → k < after → (after < length p.segments → is_arrived_at (slice_get p.segments after) ≡ false) → IsPlaced p lows fresh decided → IsPlaced (after_next p i (Some k)) (set lows old.server (k + 1)) after decided
 placed-next p i k old lows fresh after decided is next found small kept past waited placed =
     let links : List LinkAt = edit_at i (with_asked k) p.links in
     let can = (first_found (can_be_asked p old.server) 0 (length p.segments) k found).0 in
@@ -93,7 +94,7 @@ placed-next p i k old lows fresh after decided is next found small kept past wai
     }
 
 -- a server could be asked for nothing
-pub placed-none : (p : Pipeline) (server : ℕ) (lows : List ℕ) (fresh decided : ℕ) → first_from (can_be_asked p server) 0 (length p.segments) ≡ None → server < 16 → IsPlaced p lows fresh decided → IsPlaced p (set lows server (length p.segments)) fresh decided
+pub placed-none : (p : Pipeline) (server : ℕ) (lows : List ℕ) (fresh decided : ℕ) → first_from (can_be_asked p server) 0 (length p.segments) ≡ None → server < MOST_SERVERS → IsPlaced p lows fresh decided → IsPlaced p (set lows server (length p.segments)) fresh decided
 placed-none p server lows fresh decided none small placed = record {
   as_many = length-set lows server (length p.segments) ∙ placed.as_many;
   marks = placed.marks;
@@ -123,11 +124,11 @@ marked [] i below = absurd (omega arith)
 marked (y ∷ ys) zero below = refl
 marked (y ∷ ys) (suc i) below = marked ys i (omega arith)
 
-marks_kept : (server : ℕ) (outcome : Outcome) (was : SegmentAt) → length was.answered ≡ 16 → length (with_outcome server outcome was).answered ≡ 16
+marks_kept : (server : ℕ) (outcome : Outcome) (was : SegmentAt) → length was.answered ≡ MOST_SERVERS → length (with_outcome server outcome was).answered ≡ MOST_SERVERS
 marks_kept server HasArrived was whole = whole
 marks_kept server NotHere was whole = length-edit was.answered server (λ old. true) ∙ whole
 
-answered_closed : (q : Pipeline) (i k v low server : ℕ) (outcome : Outcome) (was : SegmentAt) (lows : List ℕ) → slice_get q.segments k ≡ Some (with_outcome server outcome was) → length was.answered ≡ 16 → server < 16 → HasFallen lows server k outcome v low → k < low → can_be_asked q v k ≡ false
+answered_closed : (q : Pipeline) (i k v low server : ℕ) (outcome : Outcome) (was : SegmentAt) (lows : List ℕ) → slice_get q.segments k ≡ Some (with_outcome server outcome was) → length was.answered ≡ MOST_SERVERS → server < MOST_SERVERS → HasFallen lows server k outcome v low → k < low → can_be_asked q v k ≡ false
 answered_closed q i k v low server HasArrived was lows now whole small fell below = sym (arrived_cannot q v k (ap is_arrived_at now))
 answered_closed q i k v low server NotHere was lows now whole small fell below = elim (cases_eq v server) [
   | inl e ↦ sym (answered_cannot q v k (ap (is_answered_at v) now ∙ ap (λ n. slice_index_or (edit_at server (λ old. true) was.answered) n false) e ∙ marked was.answered server (omega arith)))
@@ -146,7 +147,7 @@ out_undecided : (arrived : Bool) (h : Option ℕ) (link : ℕ) (spent : Bool) �
 out_undecided arrived h link spent held not_arrived = rw (held, not_arrived) refl
 
 -- the oldest segment of a link was answered
-pub placed-reply : (p : Pipeline) (i k : ℕ) (outcome : Outcome) (old : LinkAt) (was : SegmentAt) (lows after : List ℕ) (fresh decided : ℕ) → slice_get p.links i ≡ Some old → slice_get old.asked 0 ≡ Some k → slice_get p.segments k ≡ Some was → IsExclusive p.links p.segments → old.server < 16 → length after ≡ 16 → ((v low : ℕ) → slice_get after v ≡ Some low → HasFallen lows old.server k outcome v low) → IsPlaced p lows fresh decided → IsPlaced (after_reply p i k outcome) after fresh decided
+pub placed-reply : (p : Pipeline) (i k : ℕ) (outcome : Outcome) (old : LinkAt) (was : SegmentAt) (lows after : List ℕ) (fresh decided : ℕ) → slice_get p.links i ≡ Some old → slice_get old.asked 0 ≡ Some k → slice_get p.segments k ≡ Some was → IsExclusive p.links p.segments → old.server < MOST_SERVERS → length after ≡ MOST_SERVERS → ((v low : ℕ) → slice_get after v ≡ Some low → HasFallen lows old.server k outcome v low) → IsPlaced p lows fresh decided → IsPlaced (after_reply p i k outcome) after fresh decided
 placed-reply p i k outcome old was lows after fresh decided is first there exclusive small many fell placed =
     let links : List LinkAt = edit_at i without_oldest p.links in
     let server : server_on p i ≡ old.server = ap server_of is in
@@ -157,7 +158,7 @@ placed-reply p i k outcome old was lows after fresh decided is first there exclu
     let left : (v : ℕ) → has_link_left links v ≡ has_link_left p.links v = λ v. left-kept p.links i v without_oldest (λ l. refl) (λ l. refl) in
     let held : (s : ℕ) → s ≢ k → holder links s ≡ holder p.links s = λ s other. holder-edit p.links i s without_oldest old is (times-rest s k old.asked first other) in
     let seen : (s : ℕ) → s ≢ k → slice_get segments s ≡ slice_get p.segments s = λ s other. get-edit_other p.segments k s f other in
-    let whole : length was.answered ≡ 16 = placed.marks k was there in
+    let whole : length was.answered ≡ MOST_SERVERS = placed.marks k was there in
     let some : 0 < times k old.asked = let parts : times k old.asked ≡ times k (k ∷ []) + times k (drop 1 old.asked) = ap (times k) (first_place old.asked k first) ∙ times-append k (k ∷ []) (drop 1 old.asked) in omega (arith, one_time k) in
     let here : holder p.links k ≡ Some (0 + i) = holder-here 0 p.links i k old is (exclusive.once k) some in
     let below_fresh : k < fresh = elim (cases_lt k fresh) [
@@ -235,11 +236,11 @@ decided_by false None after true more none grown is = rw (none refl, grown refl)
 decided_by false None after false more none grown is = cc
 
 -- a link is over
-pub placed-over : (p : Pipeline) (i : ℕ) (old : LinkAt) (lows after : List ℕ) (fresh decided : ℕ) → slice_get p.links i ≡ Some old → after ≡ replicate 16 0 → IsPlaced p lows fresh decided → IsPlaced (after_over p i) after fresh decided
+pub placed-over : (p : Pipeline) (i : ℕ) (old : LinkAt) (lows after : List ℕ) (fresh decided : ℕ) → slice_get p.links i ≡ Some old → after ≡ replicate MOST_SERVERS 0 → IsPlaced p lows fresh decided → IsPlaced (after_over p i) after fresh decided
 placed-over p i old lows after fresh decided is zeros placed = record {
   as_many = ap (λ (t : List ℕ). length t) zeros;
   marks = placed.marks;
-  closed = λ v low s read below. absurd (omega (arith, zero_low 16 v low (ap (λ (t : List ℕ). slice_get t v) (sym zeros) ∙ read)));
+  closed = λ v low s read below. absurd (omega (arith, zero_low MOST_SERVERS v low (ap (λ (t : List ℕ). slice_get t v) (sym zeros) ∙ read)));
   unasked = λ s from below. (none-after p.links i s old is (placed.unasked s from below).0, (placed.unasked s from below).1);
   first_unasked = placed.first_unasked;
   all_decided = λ s below.
@@ -252,11 +253,11 @@ fresh_known zero s known read = cc
 fresh_known (suc n) zero known read = let same : unanswered ≡ known = cc in sym same
 fresh_known (suc n) (suc s) known read = fresh_known n s known read
 
-pub placed-start : (server_of_link levels : List ℕ) (n depth : ℕ) → IsPlaced (start server_of_link levels n depth) (replicate 16 0) 0 0
+pub placed-start : (server_of_link levels : List ℕ) (n depth : ℕ) → IsPlaced (start server_of_link levels n depth) (replicate MOST_SERVERS 0) 0 0
 placed-start server_of_link levels n depth = record {
   as_many = refl;
   marks = λ s known read. ap (λ (x : SegmentAt). length x.answered) (fresh_known n s known read);
-  closed = λ v low s read below. absurd (omega (arith, zero_low 16 v low read));
+  closed = λ v low s read below. absurd (omega (arith, zero_low MOST_SERVERS v low read));
   unasked = λ s from below.
       (let under : s < n = rw (← length-replicate n unanswered) below in
       (no_holder 0 (map fresh_link server_of_link) s (no_times server_of_link s), inl (get-replicate n s unanswered under)));
@@ -311,11 +312,11 @@ pub record HasLowered (lows : List ℕ) (server segment other low : ℕ) : Type 
 
 -- the places of the servers, lowered one after the other
 pub record Falling (before lows : List ℕ) (server segment : ℕ) (upto : ℕ) : Type 0 where
-  pub many : length lows ≡ 16
+  pub many : length lows ≡ MOST_SERVERS
   pub done : (k low : ℕ) → k < upto → slice_get lows k ≡ Some low → HasLowered before server segment k low
   pub rest : (k : ℕ) → upto ≤ k → slice_get lows k ≡ slice_get before k
 
-pub falling-step : (before lows : List ℕ) (server segment other low new : ℕ) → Falling before lows server segment other → other < 16 → slice_get lows other ≡ Some low → new ≤ low → (other ≢ server → new ≤ segment) → Falling before (set lows other new) server segment (other + 1)
+pub falling-step : (before lows : List ℕ) (server segment other low new : ℕ) → Falling before lows server segment other → other < MOST_SERVERS → slice_get lows other ≡ Some low → new ≤ low → (other ≢ server → new ≤ segment) → Falling before (set lows other new) server segment (other + 1)
 falling-step before lows server segment other low new falling below read kept fell = record {
   many = length-set lows other new ∙ falling.many;
   done = λ k value under got. elim (cases_eq k other) [
@@ -328,7 +329,7 @@ falling-step before lows server segment other low new falling below read kept fe
   rest = λ k from. get-set_other lows other k new (λ e. absurd (omega (arith, e))) ∙ falling.rest k (omega arith);
 }
 
-pub has-fallen : (before lows : List ℕ) (server segment upto : ℕ) (outcome : Outcome) (other low : ℕ) → Falling before lows server segment upto → 16 ≤ upto → slice_get lows other ≡ Some low → HasFallen before server segment outcome other low
+pub has-fallen : (before lows : List ℕ) (server segment upto : ℕ) (outcome : Outcome) (other low : ℕ) → Falling before lows server segment upto → MOST_SERVERS ≤ upto → slice_get lows other ≡ Some low → HasFallen before server segment outcome other low
 has-fallen before lows server segment upto outcome other low falling end read =
     let fallen = falling.done other low (omega (arith, slice_get_within lows other low read, falling.many)) read in
     record { was = fallen.was; before = fallen.before; kept = fallen.kept; fell = λ is differ. fallen.fell differ }

@@ -10,6 +10,7 @@ use Rattle.pipeline_core.specs.declared.state.Outcome.{Outcome}
 use Rattle.pipeline_core.specs.declared.state.Outcome.TheVariants.{Arrived as HasArrived, NotHere}
 use Rattle.pipeline_core.specs.declared.state.SegmentState.{SegmentState}
 use Rattle.pipeline_core.specs.declared.state.SegmentState.TheVariants.{Open, Outstanding, Arrived, Exhausted}
+use Rattle.limits.specs.declared.TheConstants.{MOST_SERVERS}
 
 -- every server is done with the segment
 abbrev pub is_spent : Pipeline → ℕ → Bool
@@ -121,7 +122,7 @@ after_reply p link segment outcome =
     }
 
 abbrev pub unanswered : SegmentAt
-unanswered = record { arrived = false; answered = replicate 16 false }
+unanswered = record { arrived = false; answered = replicate MOST_SERVERS false }
 
 -- no link greeted, and no segment asked for
 abbrev pub start : List ℕ → List ℕ → ℕ → ℕ → Pipeline

@@ -8,7 +8,7 @@ use Rattle.pipeline_core.specs.declared.state.Outcome.TheVariants.{NotHere}
 use Rattle.pipeline_core.specs.PipelineAt.{Pipeline}
 use Rattle.pipeline_core.specs.Pipeline.{can_be_asked, segment_state, is_decided, unanswered}
 use Rattle.pipeline_core.specs.Searches.{is_arrived_at, is_answered_at}
-use Rattle.limits.specs.declared.TheConstants.{MOST_SEGMENTS}
+use Rattle.limits.specs.declared.TheConstants.{MOST_DEPTH, MOST_LINKS, MOST_SEGMENTS, MOST_SERVERS}
 
 -- a segment is outstanding once at most, on one link, and none that has arrived is
 pub record IsExclusive (links : List LinkAt) (segments : List SegmentAt) : Type 0 where
@@ -26,10 +26,10 @@ AreIdle links = (k : ℕ) (link : LinkAt) → slice_get links k ≡ Some link �
 
 -- the limits, and that each link's server is one of the servers
 pub record IsLimited (links : List LinkAt) (segments : List SegmentAt) (levels : List ℕ) (depth : ℕ) : Type 0 where
-  pub few_servers : length levels ≤ 16
-  pub few_links : length links ≤ 64
+  pub few_servers : length levels ≤ MOST_SERVERS
+  pub few_links : length links ≤ MOST_LINKS
   pub few_segments : length segments ≤ MOST_SEGMENTS
-  pub small_depth : depth ≤ 32
+  pub small_depth : depth ≤ MOST_DEPTH
   pub each : (k : ℕ) (link : LinkAt) → slice_get links k ≡ Some link → (link.server < length levels) × (length link.asked ≤ depth)
 
 -- a link is kept beside each segment that is outstanding
@@ -53,8 +53,8 @@ IsUnaskedOrArrived known = (known ≡ Some unanswered) ⊎ (is_arrived_at known 
 -- back for a server of a lower level; none from `fresh` on was asked for, and that one hasn't arrived; and each below `decided` is
 -- decided
 pub record IsPlaced (p : Pipeline) (lows : List ℕ) (fresh decided : ℕ) : Type 0 where
-  pub as_many : length lows ≡ 16
-  pub marks : (segment : ℕ) (known : SegmentAt) → slice_get p.segments segment ≡ Some known → length known.answered ≡ 16
+  pub as_many : length lows ≡ MOST_SERVERS
+  pub marks : (segment : ℕ) (known : SegmentAt) → slice_get p.segments segment ≡ Some known → length known.answered ≡ MOST_SERVERS
   pub closed : (server low segment : ℕ) → slice_get lows server ≡ Some low → segment < low → can_be_asked p server segment ≡ false
   pub unasked : (segment : ℕ) → fresh ≤ segment → segment < length p.segments → (holder p.links segment ≡ None) × IsUnaskedOrArrived (slice_get p.segments segment)
   pub first_unasked : fresh < length p.segments → slice_get p.segments fresh ≡ Some unanswered

@@ -4,13 +4,14 @@ ghost use Rattle.pipeline_core.specs.Links.{has_link_left, holder};
 ghost use Rattle.pipeline_core.specs.Pipeline.{start, segment_state, next_segment, can_be_asked, asked_on, is_decided, is_finished, after_greeting, after_next, after_reply, after_over, after_settling, is_greeted_on, is_over_on};
 ghost use Rattle.pipeline_core.specs.Searches.{first_from, waits_for};
 ghost use Rattle.pipeline_core.specs.Sound.{IsSoundPipeline};
-ghost use Rattle.limits.specs.declared.TheConstants.{MOST_SEGMENTS};
+ghost use Rattle.limits.specs.declared.TheConstants.{MOST_DEPTH, MOST_LEVEL, MOST_LINKS, MOST_SEGMENTS, MOST_SERVERS};
 
 use crate::link::Link;
 use crate::places::Places;
 use crate::scans::{first_to_come, forget, is_spent, servers_waited_for};
 use crate::segment::Segment;
 use crate::state::{Outcome, SegmentState};
+use limits::MOST_SERVERS;
 use lists::Memory;
 use std::alloc::Global;
 use std::marker::Model;
@@ -47,13 +48,13 @@ impl Core {
         segments: u32,
         depth: u32,
     ) -> Result<Self, Memory>
-        requires servers { length level_of_server.now ≤ 16 }
-        requires levels { (k : ℕ) → k < length level_of_server.now → slice_index level_of_server.now k ≤ 9 }
-        requires links { length server_of_link.now ≤ 64 }
+        requires servers { length level_of_server.now ≤ MOST_SERVERS }
+        requires levels { (k : ℕ) → k < length level_of_server.now → slice_index level_of_server.now k ≤ MOST_LEVEL }
+        requires links { length server_of_link.now ≤ MOST_LINKS }
         requires each { (k : ℕ) → k < length server_of_link.now → slice_index server_of_link.now k < length level_of_server.now }
         requires segments { segments ≤ MOST_SEGMENTS }
         requires some_depth { 1 ≤ depth }
-        requires depth { depth ≤ 32 }
+        requires depth { depth ≤ MOST_DEPTH }
         ensures { IfOk result (λ core. core ≡ start server_of_link.now level_of_server.now segments depth) }
     {
         let mut links = Vec::new(alloc);
@@ -143,7 +144,7 @@ impl Core {
 
     // The least segment that the server can be asked for. It stands from the server's place on, and no further than where
     // none was asked for: all behind that are alike.
-    fn first_to_ask(&self, server: u32, waits: &[bool; 16]) -> Option<u32>
+    fn first_to_ask(&self, server: u32, waits: &[bool; MOST_SERVERS]) -> Option<u32>
         requires server { server < length self.now.levels }
         requires left { has_link_left self.now.links server ≡ true }
         requires waits { (other : ℕ) → other < length self.now.levels → slice_get waits.now other ≡ Some (waits_for self.now.links self.now.levels server other) }
@@ -159,7 +160,13 @@ impl Core {
     }
 
     // The least of these segments that the server can be asked for.
-    fn first_between(&self, server: u32, waits: &[bool; 16], start: u32, end: u32) -> Option<u32>
+    fn first_between(
+        &self,
+        server: u32,
+        waits: &[bool; MOST_SERVERS],
+        start: u32,
+        end: u32,
+    ) -> Option<u32>
         requires within { end ≤ length self.now.segments }
         requires server { server < length self.now.levels }
         requires left { has_link_left self.now.links server ≡ true }
@@ -175,7 +182,7 @@ impl Core {
     }
 
     // Whether the server can be asked for a segment. It has a link left, and waits for the servers marked here.
-    fn can_be_asked(&self, server: u32, waits: &[bool; 16], segment: u32) -> bool
+    fn can_be_asked(&self, server: u32, waits: &[bool; MOST_SERVERS], segment: u32) -> bool
         requires segment { segment < length self.now.segments }
         requires server { server < length self.now.levels }
         requires left { has_link_left self.now.links server ≡ true }

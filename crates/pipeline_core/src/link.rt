@@ -1,8 +1,10 @@
 // One link: its server, whether it may be asked, and the ring of segments that are outstanding on it.
 ghost use Rattle.std.specs.Prelude.{◌≡◌, ◌<◌, ◌≤◌, length, Some, IfOk, slice_get};
 ghost use Rattle.pipeline_core.specs.Links.{fresh_link, with_greeting, with_asked, without_oldest, with_end, may_ask};
+ghost use Rattle.limits.specs.declared.TheConstants.{MOST_DEPTH};
 
 use circular_buffer::HeapCircularBuffer;
+use limits::MOST_DEPTH;
 use lists::Memory;
 use std::alloc::Global;
 use std::marker::Model;
@@ -18,19 +20,20 @@ pub struct Link {
 impl Model for Link {
     ghost use Rattle.std.specs.Prelude.{◌≡◌};
     ghost use Rattle.pipeline_core.specs.LinkAt.{LinkAt};
+    ghost use Rattle.limits.specs.declared.TheConstants.{MOST_DEPTH};
 
     ghost Value = { LinkAt };
 
     ghost view = { λ l. record { server = l.server; greeted = l.greeted; over = l.over; asked = l.ring.items } };
 
-    ghost invariant = { λ l. l.ring.capacity ≡ 32 };
+    ghost invariant = { λ l. l.ring.capacity ≡ MOST_DEPTH };
 }
 
 impl Link {
     pub fn new(alloc: Global, server: u32) -> Result<Self, Memory>
         ensures { IfOk result (λ link. link ≡ fresh_link server) }
     {
-        let ring = HeapCircularBuffer::with_capacity(alloc, 32)?;
+        let ring = HeapCircularBuffer::with_capacity(alloc, MOST_DEPTH as usize)?;
         Ok(Link {
             server,
             greeted: false,
@@ -59,7 +62,7 @@ impl Link {
 
     pub fn count(&self) -> usize
         ensures value { result ≡ length self.now.asked }
-        ensures few { result ≤ 32 }
+        ensures few { result ≤ MOST_DEPTH }
     {
         self.ring.len()
     }
@@ -83,7 +86,7 @@ impl Link {
     }
 
     pub fn ask(&mut self, segment: u32)
-        requires { length self.old.asked < 32 }
+        requires { length self.old.asked < MOST_DEPTH }
         ensures { self.new ≡ with_asked segment self.old }
     {
         self.ring.push_back(segment);

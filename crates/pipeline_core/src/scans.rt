@@ -2,14 +2,15 @@
 ghost use Rattle.std.specs.Prelude.{◌≡◌, ◌<◌, ◌≤◌, ◌&&◌, ℕ, false, length, nat_lt, Some, slice_get};
 ghost use Rattle.pipeline_core.specs.Links.{has_link_left};
 ghost use Rattle.pipeline_core.specs.Searches.{all_from, forgotten_at, is_arrived_at, is_done_with, waits_for};
-ghost use Rattle.limits.specs.declared.TheConstants.{MOST_SEGMENTS};
+ghost use Rattle.limits.specs.declared.TheConstants.{MOST_SEGMENTS, MOST_SERVERS};
 
 use crate::link::Link;
 use crate::segment::Segment;
+use limits::MOST_SERVERS;
 
 // Whether each server has answered the segment or has no link left.
 pub(crate) fn is_spent(links: &[Link], segment: &Segment, servers: u32) -> bool
-    requires { servers ≤ 16 }
+    requires { servers ≤ MOST_SERVERS }
     ensures { result ≡ all_from (is_done_with links.now (Some segment.now)) 0 servers }
 {
     for server in 0..servers {
@@ -33,13 +34,13 @@ pub(crate) fn has_link_left(links: &[Link], server: u32) -> bool
 }
 
 // Which servers have a lower level than this one, and a link left.
-pub(crate) fn servers_waited_for(links: &[Link], levels: &[u8], server: u32) -> [bool; 16]
-    requires few { length levels.now ≤ 16 }
+pub(crate) fn servers_waited_for(links: &[Link], levels: &[u8], server: u32) -> [bool; MOST_SERVERS]
+    requires few { length levels.now ≤ MOST_SERVERS }
     requires server { server < length levels.now }
     ensures each { (other : ℕ) → other < length levels.now → slice_get result other ≡ Some (waits_for links.now levels.now server other) }
 {
     let level = levels[server as usize];
-    let mut waits = [false; 16];
+    let mut waits = [false; MOST_SERVERS];
     for other in 0..levels.len() {
         waits[other] = is_waited_for(links, levels[other], level, other as u32);
     }

@@ -2,14 +2,16 @@
 ghost use Rattle.std.specs.Prelude.{◌≡◌, ◌<◌, ◌≤◌, ◌&&◌, false, not, slice_index_or};
 ghost use Rattle.pipeline_core.specs.Pipeline.{unanswered, with_arrival, with_outcome};
 ghost use Rattle.pipeline_core.specs.Searches.{all_from, passes};
+ghost use Rattle.limits.specs.declared.TheConstants.{MOST_SERVERS};
 
 use crate::state::Outcome;
+use limits::MOST_SERVERS;
 use std::marker::Model;
 
 #[derive(Clone, Copy, Drop)]
 pub struct Segment {
     arrived: bool,
-    answered: [bool; 16],
+    answered: [bool; MOST_SERVERS],
 }
 
 impl Model for Segment {
@@ -28,7 +30,7 @@ impl Segment {
     {
         Segment {
             arrived: false,
-            answered: [false; 16],
+            answered: [false; MOST_SERVERS],
         }
     }
 
@@ -39,15 +41,15 @@ impl Segment {
     }
 
     pub fn is_answered_by(&self, server: u32) -> bool
-        requires { server < 16 }
+        requires { server < MOST_SERVERS }
         ensures { result ≡ slice_index_or self.now.answered server false }
     {
         self.answered[server as usize]
     }
 
     // Whether each of the servers that are waited for has answered.
-    pub fn is_passed(&self, waits: &[bool; 16], servers: u32) -> bool
-        requires { servers ≤ 16 }
+    pub fn is_passed(&self, waits: &[bool; MOST_SERVERS], servers: u32) -> bool
+        requires { servers ≤ MOST_SERVERS }
         ensures { result ≡ all_from (passes waits.now self.now.answered) 0 servers }
     {
         for server in 0..servers {
@@ -66,7 +68,7 @@ impl Segment {
 
     /// What an answer of this server says.
     pub fn note(&mut self, server: u32, outcome: Outcome)
-        requires { server < 16 }
+        requires { server < MOST_SERVERS }
         ensures { self.new ≡ with_outcome server outcome self.old }
     {
         match outcome {

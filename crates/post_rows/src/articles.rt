@@ -5,31 +5,24 @@ ghost use Rattle.poster.specs.Settings.{AreSettings};
 use crate::fixtures::{Desk, desk_of, has_lines, make, planned_of};
 use std::process::Abort;
 
-// Asserts how many octets an article has, and that this is its block.
-fn is_sent<R: Abort>(rt: &R, desk: Desk, octets: u64, block: &[u8]) {
-    assert!(rt; desk.octets == octets);
-    assert!(rt; desk.block.as_slice() == block);
-}
+// The lines of articles, with bars between them.
+const SHORT_ARTICLE: &str =
+    "From: me@example.org|Newsgroups: alt.binaries.test|Subject: \"d\" yEnc (1/1)|Message-ID: <tok.1of1@example.org>||=ybegin line=128 size=9 name=d|[\\]^_`abc|=yend size=9 crc32=cbf43926";
+
+const THIRD_ARTICLE: &str =
+    "From: me@example.org|Newsgroups: misc.test|Subject: \"d\" yEnc (3/3)|Message-ID: <tok.3of3@example.org>||=ybegin part=3 total=3 line=128 size=20 name=d|=ypart begin=19 end=20|..|=yend size=2 part=3 pcrc32=22d813e2";
+
+// The block of the short article.
+const SHORT_BLOCK: &str =
+    "From: me@example.org\r\nNewsgroups: alt.binaries.test\r\nSubject: \"d\" yEnc (1/1)\r\nMessage-ID: <tok.1of1@example.org>\r\n\r\n=ybegin line=128 size=9 name=d\r\n[\\]^_`abc\r\n=yend size=9 crc32=cbf43926\r\n.\r\n";
 
 #[test]
 fn a_short_file_has_one_article(rt: HostRuntime) {
     let desk = desk_of(&rt, planned_of(&rt, b"alt.binaries.test", 750_000, 9));
-    let lines: [&[u8]; 8] = [
-        b"From: me@example.org",
-        b"Newsgroups: alt.binaries.test",
-        b"Subject: \"d\" yEnc (1/1)",
-        b"Message-ID: <tok.1of1@example.org>",
-        b"",
-        b"=ybegin line=128 size=9 name=d",
-        b"[\\]^_`abc",
-        b"=yend size=9 crc32=cbf43926",
-    ];
-    let block =
-        b"From: me@example.org\r\nNewsgroups: alt.binaries.test\r\nSubject: \"d\" yEnc (1/1)\r\n\
-        Message-ID: <tok.1of1@example.org>\r\n\r\n=ybegin line=128 size=9 name=d\r\n\
-        [\\]^_`abc\r\n=yend size=9 crc32=cbf43926\r\n.\r\n";
     let desk = make(&rt, desk, 1, b"123456789");
-    is_sent(&rt, has_lines(&rt, desk, &lines), 188, block);
+    let desk = has_lines(&rt, desk, SHORT_ARTICLE);
+    assert!(rt; desk.octets == 188);
+    assert!(rt; desk.block.as_slice() == SHORT_BLOCK.as_bytes());
 }
 
 // Asserts that the line at this place is this one, of so many.
@@ -74,18 +67,7 @@ fn each_part_has_an_article_of_its_own(rt: HostRuntime) {
     let desk = desk_of(&rt, planned_of(&rt, b"misc.test", 9, 20));
     let desk = make(&rt, desk, 1, file);
     let desk = third_is_shorter(&rt, desk, file);
-    let lines: [&[u8]; 9] = [
-        b"From: me@example.org",
-        b"Newsgroups: misc.test",
-        b"Subject: \"d\" yEnc (3/3)",
-        b"Message-ID: <tok.3of3@example.org>",
-        b"",
-        b"=ybegin part=3 total=3 line=128 size=20 name=d",
-        b"=ypart begin=19 end=20",
-        b"..",
-        b"=yend size=2 part=3 pcrc32=22d813e2",
-    ];
-    let _desk = has_lines(&rt, desk, &lines);
+    let _desk = has_lines(&rt, desk, THIRD_ARTICLE);
 }
 
 #[test]

@@ -4,6 +4,7 @@ ghost use Rattle.poster.specs.Plan.{IsPlanOf};
 ghost use Rattle.poster.specs.Settings.{AreSettings};
 
 use article_head::{is_comment, is_domain, is_file_name, is_from, is_newsgroups, is_token};
+use limits::{LEAST_LINE, MOST_LINE, MOST_PATIENCE};
 use lists::{Bytes, Lines};
 use poster::{Plan, Settings, plan, write_article};
 use row_fixtures::{are_lines, bytes_of};
@@ -56,13 +57,13 @@ fn keep_to_rules(settings: &Settings) -> bool
     if !is_token(token) || !is_domain(domain) || !is_file_name(name) {
         return false;
     }
-    if settings.line < 64 || settings.line > 997 {
+    if settings.line < LEAST_LINE || settings.line > MOST_LINE {
         return false;
     }
     if settings.part_size < 1 || settings.part_size > 16_777_216 {
         return false;
     }
-    if settings.patience < 1 || settings.patience > 100_000 {
+    if settings.patience < 1 || settings.patience > MOST_PATIENCE {
         return false;
     }
     true
@@ -166,8 +167,8 @@ fn make_article(
     write_article(settings, plan, part, bytes, lines, block).ok()
 }
 
-/// Asserts that the article has these lines.
-pub(crate) fn has_lines<R: Abort>(rt: &R, desk: Desk, wanted: &[&[u8]]) -> Desk {
+/// Asserts that the article has these lines, with bars between them.
+pub(crate) fn has_lines<R: Abort>(rt: &R, desk: Desk, wanted: &str) -> Desk {
     assert!(rt; are_lines(&desk.lines, wanted));
     desk
 }

@@ -6,18 +6,12 @@ mod articles;
 #[cfg(test)]
 mod fixtures;
 #[cfg(test)]
-mod groups;
-#[cfg(test)]
 mod links;
 #[cfg(test)]
-mod logins;
-#[cfg(test)]
-mod overviews;
-#[cfg(test)]
 mod plans;
-#[cfg(test)]
-mod posts;
 #[cfg(test)]
 mod sessions;
 #[cfg(test)]
 mod spool_fixtures;
+#[cfg(test)]
+mod spools;

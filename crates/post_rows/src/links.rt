@@ -1,5 +1,5 @@
 // How much a receive gives, and when a link ends or falls quiet.
-use crate::spool_fixtures::{ends, gets, open, says, says_on, send, spool_of};
+use crate::spool_fixtures::{ends, gets, open, send, spool_of, talks};
 use io_traits::Links;
 use news_spool::{Spool, SpoolLink};
 use row_fixtures::are_events;
@@ -14,12 +14,7 @@ fn opens_none<R: Abort>(rt: &R, mut spool: Spool, address: &[u8]) -> Spool {
 #[test]
 fn an_address_that_is_not_listed_is_not_opened(rt: HostRuntime) {
     let spool = opens_none(&rt, spool_of(&rt, &[], &[]), b"none:119");
-    says(
-        &rt,
-        open(&rt, spool, b"login:119", 0),
-        b"",
-        b"200 ready\r\n",
-    );
+    let _talk = talks(&rt, open(&rt, spool, b"login:119", 0), "|200 ready\r\n");
 }
 
 #[test]
@@ -63,7 +58,7 @@ fn a_link_ends_after_so_many_bytes(rt: HostRuntime) {
         },
     ];
     let other = open(&rt, spool_of(&rt, &plan, &[]), b"open:119", 0);
-    let other = says_on(&rt, other, b"", b"200 ready\r\n");
+    let other = talks(&rt, other, "|200 ready\r\n");
     let link = open(&rt, other.left(), b"open:119", 1);
     let _spool = ends(&rt, link, b"200 ");
 }
@@ -76,14 +71,14 @@ fn a_link_is_quiet_after_so_many_bytes(rt: HostRuntime) {
         quiet_after: Some(5),
     }];
     let talk = open(&rt, spool_of(&rt, &plan, &[]), b"open:119", 0);
-    let talk = says_on(&rt, talk, b"QUIT\r\n", b"200 r");
-    says(&rt, talk, b"", b"");
+    let talk = talks(&rt, talk, "QUIT\r\n|200 r");
+    let _talk = talks(&rt, talk, "|");
 }
 
 #[test]
 fn a_spool_tells_what_happened(rt: HostRuntime) {
     let talk = open(&rt, spool_of(&rt, &[], &[]), b"open:119", 0);
-    let talk = says_on(&rt, talk, b"POST\r\n", b"200 ready\r\n340 send\r\n");
+    let talk = talks(&rt, talk, "POST\r\n|200 ready\r\n340 send\r\n");
     let wanted: [(u8, &[u8]); 4] = [
         (b'O', b"open:119"),
         (b'S', b"POST\r\n"),

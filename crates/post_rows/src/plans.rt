@@ -6,7 +6,7 @@ ghost use Rattle.poster.specs.Settings.{AreSettings};
 
 use crate::fixtures::{Planned, planned_of, settings_of};
 use lists::{Bytes, List, Memory};
-use nzb_index::write_nzb;
+use nzb_writer::write_nzb;
 use poster::{PartEnd, Plan, PlanError, PlanPart, Sent, plan, post_index};
 use std::alloc::Global;
 use std::process::Abort;

@@ -108,15 +108,24 @@ pub(crate) fn gets<R: Abort>(rt: &R, talk: Talk, room: usize, wanted: &[u8]) -> 
     }
 }
 
-/// Asserts that the link says exactly this after a text was sent, and then is quiet and goes on.
-pub(crate) fn says_on<R: Abort>(rt: &R, talk: Talk, text: &[u8], wanted: &[u8]) -> Talk {
-    let talk = gets(rt, send(rt, talk, text), 511, wanted);
-    gets(rt, talk, 511, b"")
+/// Sends texts and asserts what the link says after each: the texts and the replies stand in turn, with bars between them. Behind
+/// each reply the link is quiet and goes on.
+pub(crate) fn talks<R: Abort>(rt: &R, mut talk: Talk, script: &str) -> Talk {
+    let mut is_reply = false;
+    for text in script.split('|') {
+        talk = if is_reply {
+            hears(rt, talk, text)
+        } else {
+            send(rt, talk, text.as_bytes())
+        };
+        is_reply = !is_reply;
+    }
+    talk
 }
 
-/// The same, where no more is said.
-pub(crate) fn says<R: Abort>(rt: &R, talk: Talk, text: &[u8], wanted: &[u8]) {
-    let _talk = says_on(rt, talk, text, wanted);
+fn hears<R: Abort>(rt: &R, talk: Talk, wanted: &str) -> Talk {
+    let talk = gets(rt, talk, 511, wanted.as_bytes());
+    gets(rt, talk, 511, b"")
 }
 
 /// Asserts that the link gives exactly this and then its end, and gives the spool back.
@@ -153,27 +162,13 @@ pub(crate) fn adds<R: Abort + AllocGlobal>(
     Talk { spool, link }
 }
 
-/// An article as it is posted, with its ending dot.
-pub(crate) const ARTICLE: &[u8] =
-    b"From: me@host\r\nNewsgroups: alt.test,alt.bin\r\nSubject: one\r\nMessage-ID: <one@host>\r\n\r\nhello\r\n..dot\r\n.\r\n";
-
-/// The second one, in one newsgroup.
-pub(crate) const SECOND: &[u8] =
-    b"From: me@host\r\nNewsgroups: alt.bin\r\nSubject: two\r\nMessage-ID: <two@host>\r\n\r\n.\r\n";
-
-/// The third one, with TABs and control bytes in its head.
-pub(crate) const THIRD: &[u8] =
-    b"Subject: a\tb\x01\x1fc \r\nFrom: you\t<you@host>\r\nNewsgroups: alt.test\r\nMessage-ID: <three@host>\r\n\r\nx\r\n\r\ny\tz\r\n.\r\n";
+// The posting of three articles: the first in both newsgroups, the second in one, and the third with TABs and control bytes in its
+// head.
+const POSTS: &str =
+    "|200 ready\r\n|POST\r\n|340 send\r\n|From: me@host\r\nNewsgroups: alt.test,alt.bin\r\nSubject: one\r\nMessage-ID: <one@host>\r\n\r\nhello\r\n..dot\r\n.\r\n|240 posted\r\n|POST\r\n|340 send\r\n|From: me@host\r\nNewsgroups: alt.bin\r\nSubject: two\r\nMessage-ID: <two@host>\r\n\r\n.\r\n|240 posted\r\n|POST\r\n|340 send\r\n|Subject: a\tb\x01\x1fc \r\nFrom: you\t<you@host>\r\nNewsgroups: alt.test\r\nMessage-ID: <three@host>\r\n\r\nx\r\n\r\ny\tz\r\n.\r\n|240 posted\r\n";
 
 /// A spool to which three articles were posted, the first to both newsgroups.
 pub(crate) fn posted<R: Abort + AllocGlobal>(rt: &R) -> Spool {
     let talk = open(rt, spool_of(rt, &[], &[]), b"open:119", 0);
-    let talk = send(rt, talk, b"POST\r\n");
-    let talk = send(rt, talk, ARTICLE);
-    let talk = send(rt, talk, b"POST\r\n");
-    let talk = send(rt, talk, SECOND);
-    let talk = send(rt, talk, b"POST\r\n");
-    let wanted =
-        b"200 ready\r\n340 send\r\n240 posted\r\n340 send\r\n240 posted\r\n340 send\r\n240 posted\r\n";
-    says_on(rt, talk, THIRD, wanted).left()
+    talks(rt, talk, POSTS).left()
 }

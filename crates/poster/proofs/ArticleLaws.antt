@@ -27,6 +27,7 @@ use Rattle.poster.specs.Settings.{AreSettings}
 use Rattle.poster.specs.declared.settings.Settings.{Settings}
 use Rattle.poster.proofs.BodyLines.{ArePlain, AreShort, IsSmall, body_short, fewer, line_more, lines_more, no_lines}
 use Rattle.poster.proofs.ShortText.{IsShort, ends_no_line}
+use Rattle.limits.specs.declared.TheConstants.{MOST_OCTETS}
 
 -- ---- heads
 
@@ -82,13 +83,13 @@ part_is_small s size part bytes settings small few number len =
 
 -- the lines of an article: none holds a line end, and all together they aren't long
 pub article_short : (s : Settings) (size part : ℕ) (bytes : List ℕ) (a : Article) → AreSettings s → size ≤ most_bytes → parts_of size s.part_size ≤ most_parts
-    → IsPartNumber size s.part_size part → length bytes ≡ part_length size s.part_size part → IsArticle s size part bytes a → AreShort 999999999999 (lines_of a)
+    → IsPartNumber size s.part_size part → length bytes ≡ part_length size s.part_size part → IsArticle s size part bytes a → AreShort MOST_OCTETS (lines_of a)
 article_short s size part bytes a settings small few number len is =
     let head_is : a.head ≡ head_of s part (parts_of size s.part_size) (id_of s size part) =
     is.head_is ∙ ap (λ id. head_of s part (parts_of size s.part_size) id) is.id_is in
     let head : AreShort 4002 a.head = subst (AreShort 4002) (sym head_is) (head_short s size part settings few number) in
     let body = body_short (spec_for s size part) bytes a.body (part_is_small s size part bytes settings small few number len) is.body_is in
-    fewer (4002 + (566 + 4 * length bytes)) 999999999999 _ (omega (arith, len, settings.part_size_most)) (lines_more 4002 (566 + 4 * length bytes) a.head a.body head body)
+    fewer (4002 + (566 + 4 * length bytes)) MOST_OCTETS _ (omega (arith, len, settings.part_size_most)) (lines_more 4002 (566 + 4 * length bytes) a.head a.body head body)
 
 -- a line without NUL, CR and LF holds no CR LF
 plain_holds_none : (line : List ℕ) → has_no_line_end line ≡ true → HoldsNoLineEnd line
@@ -152,7 +153,7 @@ article_made s size part total bytes id old between new none head total_is id_is
 
 -- the lines of an article have at most so many octets
 pub octets_most : (s : Settings) (size part : ℕ) (bytes : List ℕ) (lines : List (List ℕ)) → AreSettings s → size ≤ most_bytes → parts_of size s.part_size ≤ most_parts → IsPartNumber size s.part_size part
-    → length bytes ≡ part_length size s.part_size part → HasArticleLines s size part bytes lines → sum_by octets_of_line lines ≤ 999999999999
+    → length bytes ≡ part_length size s.part_size part → HasArticleLines s size part bytes lines → sum_by octets_of_line lines ≤ MOST_OCTETS
 octets_most s size part bytes lines settings small few number len (a, is, whole) = rw whole ((article_short s size part bytes a settings small few number len is).short)
 
 -- no line of an article holds CR LF
@@ -175,7 +176,7 @@ spec_made s size part total first name n t f = rw (n, t, f) refl
 
 -- the article and its block
 pub article_written : (s : Settings) (size part octets : ℕ) (bytes : List ℕ) (lines : List (List ℕ)) (old block : List ℕ) → HasArticleLines s size part bytes lines → octets ≡ sum_by octets_of_line lines
-    → sum_by octets_of_line lines ≤ 999999999999 → old ≡ [] → block ≡ old ++ stuffed lines → IsBlock lines (stuffed lines) → IsWritten s size part bytes lines block octets
+    → sum_by octets_of_line lines ≤ MOST_OCTETS → old ≡ [] → block ≡ old ++ stuffed lines → IsBlock lines (stuffed lines) → IsWritten s size part bytes lines block octets
 article_written s size part octets bytes lines old block (a, is, whole) octets_are most none stuffed_is is_block =
     let block_is : block ≡ stuffed (lines_of a) = stuffed_is ∙ ap (λ bs. bs ++ stuffed lines) none ∙ ap (λ ls. stuffed ls) whole in
     record {

@@ -16,14 +16,14 @@ use Rattle.article_head.proofs.Pieces.{names_are_pieces}
 use Rattle.nntp_lines.specs.Command.{is_printable}
 use Rattle.nntp_lines.specs.GroupName.{IsGroupName}
 use Rattle.nntp_lines.specs.MessageId.{IsMessageId, is_id_byte}
-use Rattle.nzb_index.specs.Canonical.{IsValidFile, IsValidIndex}
-use Rattle.nzb_index.specs.Markup.{IsTextBytes, is_control, is_message_id, is_white, trimmed}
-use Rattle.nzb_index.specs.Markup as nzb
-use Rattle.nzb_index.specs.declared.index.FileEntry.{FileEntry}
-use Rattle.nzb_index.specs.declared.index.Index.{Index}
-use Rattle.nzb_index.specs.declared.index.Meta.{Meta}
-use Rattle.nzb_index.specs.declared.index.Segment.{Segment}
-use Rattle.nzb_index.proofs.ValidTexts.{group_is_valid, id_is_valid, plain_text, wider}
+use Rattle.nzb_writer.specs.Canonical.{IsValidFile, IsValidIndex}
+use Rattle.nzb_writer.specs.Markup.{IsTextBytes, is_control, is_message_id, is_white, trimmed}
+use Rattle.nzb_writer.specs.Markup as nzb
+use Rattle.nzb_writer.specs.declared.index.FileEntry.{FileEntry}
+use Rattle.nzb_writer.specs.declared.index.Index.{Index}
+use Rattle.nzb_writer.specs.declared.index.Meta.{Meta}
+use Rattle.nzb_writer.specs.declared.index.Segment.{Segment}
+use Rattle.nzb_writer.proofs.ValidTexts.{group_is_valid, id_is_valid, plain_text, wider}
 use Rattle.yenc_body.specs.Parts.{most_parts, parts_of}
 use Rattle.poster.specs.Article.{AreArticlesFrom, Article}
 use Rattle.poster.specs.Index.{AreOutcomes, IndexesArticles, entry_of, index_of, numbered, segments_from}
@@ -33,6 +33,7 @@ use Rattle.poster.specs.declared.index.Sent.{Sent}
 use Rattle.poster.specs.declared.parts.Plan.{Plan}
 use Rattle.poster.specs.declared.parts.PlanPart.{PlanPart}
 use Rattle.poster.specs.declared.settings.Settings.{Settings}
+use Rattle.limits.specs.declared.TheConstants.{MOST_OCTETS, LAST_MOMENT}
 
 -- ---- texts
 
@@ -45,7 +46,7 @@ printable_text text all = plain_text text (wider is_printable (nat_le 32) printa
 -- ---- segments
 
 abbrev pub IsValidSegment : Segment → Type 0
-IsValidSegment s = (1 ≤ s.number) × (s.number ≤ 4294967295) × (s.bytes ≤ 999999999999) × (is_message_id s.id ≡ true)
+IsValidSegment s = (1 ≤ s.number) × (s.number ≤ 4294967295) × (s.bytes ≤ MOST_OCTETS) × (is_message_id s.id ≡ true)
 
 length-segments : (number : ℕ) (parts : List PlanPart) (sent : List Sent) → length sent ≡ length parts → length (segments_from number parts sent) ≡ length parts
 length-segments number [] sent same = refl
@@ -53,19 +54,19 @@ length-segments number (part ∷ parts) [] same = absurd (omega (arith, same))
 length-segments number (part ∷ parts) (s ∷ sent) same = let rest = length-segments (number + 1) parts sent (omega (arith, same)) in omega (arith, rest)
 
 segments_valid : (s : Settings) (size number count : ℕ) (sent : List Sent) → AreSettings s → parts_of size s.part_size ≤ most_parts → 1 ≤ number → number + count ≤ parts_of size s.part_size + 1
-    → All (λ one. one.bytes ≤ 999999999999) sent → AllByRecursion IsValidSegment (segments_from number (map (planned_part s size) (range_with_len number count)) sent)
+    → All (λ one. one.bytes ≤ MOST_OCTETS) sent → AllByRecursion IsValidSegment (segments_from number (map (planned_part s size) (range_with_len number count)) sent)
 segments_valid s size number zero sent settings few first last short = tt
 segments_valid s size number (suc count) [] settings few first last short = tt
 segments_valid s size number (suc count) (one ∷ sent) settings few first last short =
     let id = part_id_is_message_id s.token s.domain number (parts_of size s.part_size) settings.token settings.domain (omega (arith, few, last)) few in
-    let IsFew : Sent → Type 0 = λ other. other.bytes ≤ 999999999999 in (
+    let IsFew : Sent → Type 0 = λ other. other.bytes ≤ MOST_OCTETS in (
       (first, omega (arith, few, last), All-head IsFew one sent short, id_is_valid (id_of s size number) id),
       segments_valid s size (number + 1) count sent settings few (omega arith) (omega (arith, last)) (All-tail IsFew one sent short),
     )
 
 -- ---- the index
 
-pub index_valid : (s : Settings) (p : Plan) (sent : List Sent) (moment : ℕ) → AreSettings s → IsPlanOf s p.size p → AreOutcomes p sent → moment ≤ 999999999999 → IsValidIndex (index_of s p sent moment)
+pub index_valid : (s : Settings) (p : Plan) (sent : List Sent) (moment : ℕ) → AreSettings s → IsPlanOf s p.size p → AreOutcomes p sent → moment ≤ LAST_MOMENT → IsValidIndex (index_of s p sent moment)
 index_valid s p sent moment settings plan outcomes late =
     let total : ℕ = parts_of p.size s.part_size in
     let count : length p.parts ≡ total = ap length plan.parts_are ∙ length-map-range_with_len (planned_part s p.size) 1 total in

@@ -15,6 +15,7 @@ use Rattle.poster.specs.declared.index.PartEnd.{PartEnd}
 use Rattle.poster.specs.declared.index.PartEnd.TheVariants.{NotSent}
 use Rattle.poster.specs.declared.index.Sent.{Sent}
 use Rattle.poster.specs.declared.settings.Settings.{Settings}
+use Rattle.limits.specs.declared.TheConstants.{MOST_OCTETS}
 
 -- ---- articles
 
@@ -135,7 +136,7 @@ outcomes_none zero = refl
 outcomes_none (suc n) = ap (λ (l : List Sent). record { end = NotSent; bytes = 0 } ∷ l) (outcomes_none n) ∙ ap (λ m. outcomes_of m [] []) (let e : suc (n + 1) ≡ suc n + 1 = omega arith in e)
 
 abbrev pub FewOctets : Sent → Type 0
-FewOctets sent = sent.bytes ≤ 999999999999
+FewOctets sent = sent.bytes ≤ MOST_OCTETS
 
 -- no outcome has more octets than an index may tell
 pub outcomes_short : (n : ℕ) (ends : List PartEnd) (mades : List Made) (s : Settings) (size : ℕ) (content : Option (List ℕ)) (part : ℕ) → AreMade s size content part mades → All FewOctets (outcomes_of n ends mades)

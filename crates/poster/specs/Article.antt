@@ -9,6 +9,7 @@ use Rattle.yenc_lines.specs.Name.{has_no_line_end}
 use Rattle.poster.specs.Plan.{IsPartNumber, id_of}
 use Rattle.poster.specs.Settings.{AreSettings}
 use Rattle.poster.specs.declared.settings.Settings.{Settings}
+use Rattle.limits.specs.declared.TheConstants.{MOST_OCTETS}
 
 -- an article: its message-id, the lines of its head with the empty one, and those of its body
 pub record Article : Type 0 where
@@ -66,7 +67,7 @@ pub record IsWritten (s : Settings) (size part : ℕ) (bytes : List ℕ) (lines 
   pub block_is : block ≡ stuffed (lines_of article)
   pub is_block : IsBlock (lines_of article) block
   pub octets_are : octets ≡ octets_of article
-  pub octets_most : octets ≤ 999999999999
+  pub octets_most : octets ≤ MOST_OCTETS
 
 -- ---- laws
 

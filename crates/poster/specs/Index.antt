@@ -2,19 +2,20 @@
 use Rattle.std.specs.Prelude.{◌≡◌, ℕ, ◌+◌, ◌≤◌, List, [], ◌∷◌, length, map, All, IsPermutation}
 use Rattle.article_head.specs.Field.{names_of}
 use Rattle.article_head.specs.Subject.{subject_text}
-use Rattle.nzb_index.specs.declared.index.FileEntry.{FileEntry}
-use Rattle.nzb_index.specs.declared.index.Index.{Index}
-use Rattle.nzb_index.specs.declared.index.Segment.{Segment}
+use Rattle.nzb_writer.specs.declared.index.FileEntry.{FileEntry}
+use Rattle.nzb_writer.specs.declared.index.Index.{Index}
+use Rattle.nzb_writer.specs.declared.index.Segment.{Segment}
 use Rattle.poster.specs.Article.{AreArticles, Article}
 use Rattle.poster.specs.declared.index.Sent.{Sent}
 use Rattle.poster.specs.declared.parts.Plan.{Plan}
 use Rattle.poster.specs.declared.parts.PlanPart.{PlanPart}
 use Rattle.poster.specs.declared.settings.Settings.{Settings}
+use Rattle.limits.specs.declared.TheConstants.{MOST_OCTETS}
 
 -- one outcome for each part of a plan, none with more octets than an index may tell
 pub record AreOutcomes (p : Plan) (sent : List Sent) : Type 0 where
   pub count : length sent ≡ length p.parts
-  pub short : All (λ s. s.bytes ≤ 999999999999) sent
+  pub short : All (λ s. s.bytes ≤ MOST_OCTETS) sent
 
 -- a segment for each part, numbered from a number on
 abbrev pub segments_from : ℕ → List PlanPart → List Sent → List Segment

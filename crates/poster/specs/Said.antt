@@ -16,6 +16,7 @@ use Rattle.poster.specs.declared.index.PartEnd.{PartEnd}
 use Rattle.poster.specs.declared.index.PartEnd.TheVariants.{Posted, Refused, Unsure, NotSent}
 use Rattle.poster.specs.declared.index.Sent.{Sent}
 use Rattle.poster.specs.declared.settings.Settings.{Settings}
+use Rattle.limits.specs.declared.TheConstants.{MOST_OCTETS}
 
 -- ---- the articles that were made
 
@@ -33,7 +34,7 @@ pub record IsMade (s : Settings) (size : ℕ) (content : Option (List ℕ)) (par
   pub is_article : IsArticle s size part bytes article
   pub block_is : made.block ≡ stuffed (lines_of article)
   pub octets_are : made.octets ≡ octets_of article
-  pub octets_most : made.octets ≤ 999999999999
+  pub octets_most : made.octets ≤ MOST_OCTETS
 
 -- the articles of the parts from a part on
 abbrev pub AreMade : Settings → ℕ → Option (List ℕ) → ℕ → List Made → Type 0

@@ -5,6 +5,7 @@ ghost use Rattle.yenc_body.specs.Parts.{part_length};
 ghost use Rattle.poster.specs.Article.{HasArticleLines, IsWritten, head_of, octets_of_line, spec_for};
 ghost use Rattle.poster.specs.Plan.{IsPlanOf};
 ghost use Rattle.poster.specs.Settings.{AreSettings};
+ghost use Rattle.limits.specs.declared.TheConstants.{MOST_OCTETS};
 
 use crate::{Plan, Settings};
 use article_head::{Head, write_head};
@@ -15,7 +16,7 @@ use yenc_body::{BodySpec, write_body};
 
 /// Makes the article of a part, counted from 1, of the part's bytes: its lines, and the block of them as it is sent
 /// (RFC 3977, 3.1.1). It answers how many octets the article has before it is stuffed, with CRLF behind each line, at most
-/// 999,999,999,999. What the two buffers held before is dropped, and where memory runs out they are empty.
+/// `MOST_OCTETS`. What the two buffers held before is dropped, and where memory runs out they are empty.
 pub fn write_article(
     settings: &Settings,
     plan: &Plan,
@@ -151,7 +152,7 @@ fn spec_of(settings: &Settings, plan: &Plan, part: u32) -> Result<BodySpec, Memo
 
 // How many octets the lines have, each with CRLF behind it.
 fn octets_of(lines: &Lines) -> u64
-    requires { sum_by octets_of_line lines.now ≤ 999999999999 }
+    requires { sum_by octets_of_line lines.now ≤ MOST_OCTETS }
     ensures { result ≡ sum_by octets_of_line lines.now }
 {
     let mut octets = 0;

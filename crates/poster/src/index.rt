@@ -1,16 +1,16 @@
 // The index of a file that was posted.
 ghost use Rattle.std.specs.Prelude.{◌≡◌, ◌≤◌, length, IfOk};
-ghost use Rattle.nzb_index.specs.Canonical.{IsValidIndex};
+ghost use Rattle.nzb_writer.specs.Canonical.{IsValidIndex};
 ghost use Rattle.article_head.specs.Field.{names_of};
 ghost use Rattle.poster.specs.Index.{AreOutcomes, IndexesArticles, entry_of, index_of, segments_from};
 ghost use Rattle.poster.specs.Plan.{IsPlanOf};
 ghost use Rattle.poster.specs.Settings.{AreSettings};
-ghost use Rattle.limits.specs.declared.TheConstants.{MOST_SEGMENTS};
+ghost use Rattle.limits.specs.declared.TheConstants.{LAST_MOMENT, MOST_SEGMENTS};
 
 use crate::{Plan, PlanPart, Settings};
 use article_head::write_subject;
 use lists::{Bytes, List, Memory, bytes_of};
-use nzb_index::{FileEntry, Index, Segment};
+use nzb_writer::{FileEntry, Index, Segment};
 use std::alloc::Global;
 
 /// What became of a part.
@@ -35,8 +35,8 @@ pub struct Sent {
     pub bytes: u64,
 }
 
-/// The index of a file that was posted at a moment, in Unix seconds up to 999,999,999,999: one file with all parts of the
-/// plan, whatever became of them. There is one outcome for each part, of at most 999,999,999,999 octets.
+/// The index of a file that was posted at a moment, in Unix seconds up to `LAST_MOMENT`: one file with all parts of the
+/// plan, whatever became of them. There is one outcome for each part, of at most `MOST_OCTETS` octets.
 pub fn post_index(
     alloc: Global,
     settings: &Settings,
@@ -47,7 +47,7 @@ pub fn post_index(
     requires settings { AreSettings settings.now }
     requires plan { IsPlanOf settings.now plan.now.size plan.now }
     requires sent { AreOutcomes plan.now sent.now }
-    requires moment { moment ≤ 999999999999 }
+    requires moment { moment ≤ LAST_MOMENT }
     ensures index { IfOk result (λ index. index ≡ index_of settings.now plan.now sent.now moment) }
     ensures valid { IfOk result IsValidIndex }
     ensures articles { IfOk result (IndexesArticles settings.now plan.now.size) }

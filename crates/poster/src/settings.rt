@@ -14,15 +14,15 @@ pub struct Settings {
     pub from: Bytes,
     /// Where to: 1 to 10 names of newsgroups with commas between them, at most 600 bytes (RFC 5536, 3.1.4).
     pub newsgroups: Bytes,
-    /// What the message-ids of all parts begin with: 1 to 64 letters, digits, `-` and `_`.
+    /// What the message-ids of all parts begin with: 1 to `MOST_ID_BYTES` letters, digits, `-` and `_`.
     pub token: Bytes,
-    /// The domain of the message-ids: 1 to 64 bytes, pieces of letters, digits and `-` with one dot between two.
+    /// The domain of the message-ids: 1 to `MOST_ID_BYTES` bytes, pieces of letters, digits and `-` with one dot between two.
     pub domain: Bytes,
     /// What the subjects begin with: 0 to 200 printable ASCII characters, with no space at either end.
     pub comment: Bytes,
     /// The name of the file, of printable ASCII characters.
     pub name: Name,
-    /// How many characters a data line has before it is full, from 64 to 997.
+    /// How many characters a data line has before it is full, from `LEAST_LINE` to `MOST_LINE`.
     pub line: u16,
     /// How many bytes a part has, from 1 to 16,777,216; the last one may have fewer.
     pub part_size: u64,

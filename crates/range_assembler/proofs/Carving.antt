@@ -4,7 +4,7 @@ use Rattle.std.specs.Prelude.{slice_get, insert, remove}
 use Rattle.std.proofs.lemmas.Bool.{cases_lt, cases_eq}
 use Rattle.range_assembler.specs.declared.sequence.Range.{Range}
 use Rattle.range_assembler.specs.Bare.{Leaves, IsGap, IsGaps}
-use Rattle.range_assembler.proofs.Places.{get-set_other, get-set_same}
+use Rattle.lists.proofs.OnePlace.{get-set_other, get-set_same}
 use Rattle.range_assembler.proofs.Changes.{came, left_over, stays, is_new, remains, more_in_order}
 
 -- bare, but for these offsets

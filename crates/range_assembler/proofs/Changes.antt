@@ -5,7 +5,7 @@ use Rattle.std.proofs.lemmas.Bool.{cases_lt, cases_eq}
 use Rattle.range_assembler.specs.declared.assembler.Entry.{Entry}
 use Rattle.range_assembler.specs.declared.sequence.Range.{Range}
 use Rattle.range_assembler.specs.Order.{Precedes, range_of, is_shown, count_shown, IsOfEntry, IsAmongRanges, IsOrder, IsAbsent}
-use Rattle.range_assembler.proofs.Places.{get-set_other, get-set_same}
+use Rattle.lists.proofs.OnePlace.{get-set_other, get-set_same}
 use Rattle.range_assembler.proofs.Ordering.{has_offset}
 
 pub record IsPast {X : Type 0} (xs : List X) (p k : ℕ) (x : X) : Type 0 where

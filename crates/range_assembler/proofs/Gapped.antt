@@ -14,7 +14,7 @@ use Rattle.range_assembler.specs.Entries.{is_taken, is_accepted, kept_size, entr
 use Rattle.range_assembler.specs.Missing.{is_covered, gaps, missing_of}
 use Rattle.range_assembler.specs.Order.{with_range, IsAbsent, IsIndexed}
 use Rattle.range_assembler.specs.Sound.{AreSoundRanges}
-use Rattle.range_assembler.proofs.Places.{get-set_other, get-set_same}
+use Rattle.lists.proofs.OnePlace.{get-set_other, get-set_same}
 use Rattle.range_assembler.proofs.Scanning.{covered_by, covers_means, kept_is}
 use Rattle.range_assembler.proofs.SetLaws.{shared}
 use Rattle.range_assembler.proofs.Holds.{free_in}

@@ -11,7 +11,7 @@ use Rattle.range_assembler.specs.declared.assembler.Hold.TheVariants.{Free, Held
 use Rattle.range_assembler.specs.Entries.{least_clash, shares, is_taken, kept_size, free_entry, entries_of}
 use Rattle.range_assembler.specs.Claims.{is_held}
 use Rattle.range_assembler.specs.Sound.{AreSoundRanges, IsSoundRange}
-use Rattle.range_assembler.proofs.Places.{get-set_other, get-set_same}
+use Rattle.lists.proofs.OnePlace.{get-set_other, get-set_same}
 use Rattle.range_assembler.proofs.Scanning.{no_clash, kept_is, kept_none}
 use Rattle.limits.specs.declared.TheConstants.{MOST_FILE_BYTES, MOST_SEGMENTS}
 

@@ -14,7 +14,7 @@ use Rattle.range_assembler.specs.Entries.{least_clash, shares, is_taken, is_acce
 use Rattle.range_assembler.specs.Order.{range_of, is_shown, count_shown, IsOrder, IsAbsent, IsIndexed, with_range, without_place, size_read}
 use Rattle.range_assembler.specs.Sound.{AreSoundRanges}
 use Rattle.range_assembler.proofs.Holds.{sound-set, sound-start, free_in, fits-claim, fits-accept, fits-release}
-use Rattle.range_assembler.proofs.Places.{get-set_other, get-set_same}
+use Rattle.lists.proofs.OnePlace.{get-set_other, get-set_same}
 use Rattle.range_assembler.proofs.Scanning.{no_clash, kept_is, kept_none}
 use Rattle.range_assembler.proofs.SetLaws.{shared}
 use Rattle.range_assembler.proofs.Ordering.{not_before, before_means, reaches, below_place, from_place, leads, some_at, within, has_offset, shown_means}

@@ -1,4 +1,3 @@
-pub mod Places
 pub mod Scanning
 pub mod Gaps
 pub mod Holds

@@ -4,7 +4,7 @@ use Rattle.std.specs.Prelude.{slice_get, insert, remove}
 use Rattle.std.proofs.lemmas.Bool.{cases_eq}
 use Rattle.range_assembler.specs.declared.sequence.Range.{Range}
 use Rattle.range_assembler.specs.Sides.{HaveSides, AllSome}
-use Rattle.range_assembler.proofs.Places.{get-set_other}
+use Rattle.lists.proofs.OnePlace.{get-set_other}
 use Rattle.range_assembler.proofs.Changes.{stays, is_new, remains}
 
 set_read : {X : Type 0} (xs : List X) (i : ℕ) (x y : X) → slice_get (set xs i x) i ≡ Some y → x ≡ y

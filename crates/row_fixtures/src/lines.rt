@@ -1,15 +1,14 @@
 // Lists of lines.
 use lists::Lines;
 
-/// Whether the lines are these.
-pub fn are_lines(lines: &Lines, wanted: &[&[u8]]) -> bool {
-    if lines.len() != wanted.len() {
-        return false;
-    }
-    for i in 0..wanted.len() {
-        if lines.line(i) != wanted[i] {
+/// Whether the lines are these, with bars between them.
+pub fn are_lines(lines: &Lines, wanted: &str) -> bool {
+    let mut count = 0;
+    for line in wanted.split('|') {
+        if count >= lines.len() || lines.line(count) != line.as_bytes() {
             return false;
         }
+        count += 1;
     }
-    true
+    count == lines.len()
 }

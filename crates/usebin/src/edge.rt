@@ -1,9 +1,11 @@
 // What stands between the system and the top call: the words, the moment, and what is said to a person.
 ghost use Rattle.std.specs.Prelude.{◌≤◌};
+ghost use Rattle.limits.specs.declared.TheConstants.{LAST_MOMENT};
 
 use crate::explain::{explain_fault, explain_memory, explain_words, hint, wants_hints};
 use crate::help::Page;
 use command_words::refused_word;
+use limits::LAST_MOMENT;
 use lists::Memory;
 use run_ends::{End, LineBuffer, status, write_line};
 use std::env::{Env, FillError};
@@ -15,8 +17,6 @@ use std::{env, io};
 const LONGEST_WORD: usize = 131_072;
 
 // The greatest moment that the top call takes, in seconds of Unix time.
-const LAST_MOMENT: u64 = 999_999_999_999;
-
 /// The words behind the program's name, or the status for words that can't be had, which is told then.
 pub(crate) fn command_line(rt: &HostRuntime) -> Result<Vec<String>, u8> {
     match all_words(rt) {
@@ -99,7 +99,7 @@ fn word_of_text<'a>(
 
 /// The moment by the clock, in seconds of Unix time, or 0 where the clock doesn't tell it.
 pub(crate) fn moment_of(rt: &HostRuntime) -> u64
-    ensures { result ≤ 999999999999 }
+    ensures { result ≤ LAST_MOMENT }
 {
     match SystemTime::now(rt) {
         Ok(now) => match now.duration_since(UNIX_EPOCH) {

@@ -1,10 +1,10 @@
 -- What is in the grammar that is asked for, and within the limits, is refused for a short read alone.
 use Rattle.std.proofs.Common.{◌≡◌, ℕ, List, Option, Some, None, inl, inr, ◌⊎◌, arith, length}
 use Rattle.io_traits.specs.Causes.{Rose}
-use Rattle.nzb_index.specs.Nzb.{IsNzb}
+use Rattle.nzb_writer.specs.Nzb.{IsNzb}
 use Rattle.nzb_index.specs.NzbReading.{Refusal, past}
 use Rattle.nzb_index.specs.Refusal.{HasOneIndex, HasOneRefusal, IsTextRefused}
-use Rattle.nzb_index.specs.declared.index.Index.{Index}
+use Rattle.nzb_writer.specs.declared.index.Index.{Index}
 use Rattle.nzb_index.proofs.NzbLaws.{one_answer_of}
 use Rattle.command_words.specs.CommandLine.{BodyAsked, Words}
 use Rattle.command_words.specs.CommandLine.Words.{Asks}

@@ -4,7 +4,7 @@ use Rattle.command_words.specs.CommandLine.Words.{Asks}
 use Rattle.command_words.specs.CommandLine.Command.{Index as AsksIndex}
 use Rattle.command_words.specs.Index.{IndexAsked}
 use Rattle.input_files.specs.Reading.{Reading}
-use Rattle.nzb_index.specs.Canonical.{nzb_text}
+use Rattle.nzb_writer.specs.Canonical.{nzb_text}
 use Rattle.overview_index.specs.declared.session.Indexed.{Indexed}
 use Rattle.run_ends.specs.declared.end.End.{End}
 use Rattle.run_ends.specs.declared.end.End.TheVariants.{Done, InputFault, Short, Limit as Passes, LoginBroken, NoMemory}

@@ -1,11 +1,11 @@
 -- How `check` ends.
 use Rattle.std.specs.Prelude.{◌≡◌, ◌⊎◌, ℕ, List, [], ◌∷◌, ◌++◌, length, sum_by, Option, codes, ⊤}
 use Rattle.std.specs.Fmt.{decimal}
-use Rattle.nzb_index.specs.Nzb.{IsNzb, segment_count}
+use Rattle.nzb_writer.specs.Nzb.{IsNzb, segment_count}
 use Rattle.nzb_index.specs.NzbReading.{Refusal, refused_at, past}
 use Rattle.nzb_index.specs.Refusal.{IsTextRefused}
-use Rattle.nzb_index.specs.declared.index.FileEntry.{FileEntry}
-use Rattle.nzb_index.specs.declared.index.Index.{Index}
+use Rattle.nzb_writer.specs.declared.index.FileEntry.{FileEntry}
+use Rattle.nzb_writer.specs.declared.index.Index.{Index}
 use Rattle.nzb_index.specs.declared.error.NzbLimit.{NzbLimit}
 use Rattle.nzb_index.specs.declared.error.NzbLimit.TheVariants.{TextBytes, Files, Segments}
 use Rattle.input_files.specs.Reading.{Reading, HasFailed, IsBelow, Exceeds, IsReadOrOpen, IsSaved, most_text}

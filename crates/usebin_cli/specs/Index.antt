@@ -2,7 +2,7 @@
 use Rattle.std.specs.Prelude.{◌≡◌, ◌⊎◌, ℕ, List, [], ◌∷◌, ◌++◌, Option, Some, Result, Ok, Err, codes}
 use Rattle.std.specs.Fmt.{decimal}
 use Rattle.nntp_lines.specs.declared.login.Login.{Login}
-use Rattle.nzb_index.specs.Canonical.{nzb_text}
+use Rattle.nzb_writer.specs.Canonical.{nzb_text}
 use Rattle.link_dialog.specs.Talk.{Start}
 use Rattle.overview_index.specs.Session.{IndexEnds as SessionEnds, Query}
 use Rattle.overview_index.specs.declared.session.Indexed.{Indexed}

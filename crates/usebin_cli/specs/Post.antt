@@ -7,7 +7,7 @@ use Rattle.io_traits.specs.declared.links.LinkEvent.{LinkEvent}
 use Rattle.nntp_lines.specs.declared.login.Login.{Login}
 use Rattle.nntp_lines.specs.declared.why.Why.{Why}
 use Rattle.yenc_body.specs.Parts.{most_bytes, most_parts, parts_of}
-use Rattle.nzb_index.specs.Canonical.{nzb_text}
+use Rattle.nzb_writer.specs.Canonical.{nzb_text}
 use Rattle.link_dialog.specs.Talk.{Start}
 use Rattle.poster.specs.Index.{AreOutcomes, index_of}
 use Rattle.poster.specs.Plan.{IsPlanOf}

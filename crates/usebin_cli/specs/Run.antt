@@ -5,7 +5,7 @@ use Rattle.command_words.specs.CommandLine.{Words}
 use Rattle.command_words.specs.CommandLine.Words.{Asks, Refused as AreRefused}
 use Rattle.command_words.specs.CommandLine.Command.{Check, Decode, Encode, Index as AsksIndex, Post}
 use Rattle.yenc_body.specs.declared.part.Part.{Part as BodyPart}
-use Rattle.nzb_index.specs.declared.index.Index.{Index}
+use Rattle.nzb_writer.specs.declared.index.Index.{Index}
 use Rattle.nntp_lines.specs.declared.login.Login.{Login}
 use Rattle.input_files.specs.Reading.{Reading, IsFaultless, IsShortAt, Fits, Exceeds, most_text}
 use Rattle.run_ends.specs.Line.{line_of}

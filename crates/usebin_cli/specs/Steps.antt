@@ -6,7 +6,7 @@ use Rattle.command_words.specs.CommandLine.Command.{Decode, Encode, Index as Ask
 use Rattle.command_words.specs.Index.{IndexAsked}
 use Rattle.command_words.specs.Post.{PostAsked}
 use Rattle.input_files.specs.Reading.{Reading, IsFaultless, Fits, most_text}
-use Rattle.nzb_index.specs.Canonical.{IsValidIndex, nzb_text}
+use Rattle.nzb_writer.specs.Canonical.{IsValidIndex, nzb_text}
 use Rattle.overview_index.specs.declared.session.Indexed.{Indexed}
 use Rattle.run_ends.specs.declared.end.End.{End}
 use Rattle.run_ends.specs.declared.end.End.TheVariants.{Done, NoMemory, Refused}

@@ -3,6 +3,7 @@ ghost use Rattle.std.specs.Prelude.{◌≡◌, ◌≤◌, MatchResult};
 ghost use Rattle.usebin_cli.specs.Body.{WroteBody, WroteData};
 ghost use Rattle.usebin_cli.specs.Writing.{written, WroteFront, WroteWhole};
 ghost use Rattle.yenc_text.specs.Text.{closing as text_behind, opening as text_before};
+ghost use Rattle.limits.specs.declared.TheConstants.{LEAST_LINE, MOST_LINE};
 
 use crate::writing::write_all;
 use io_traits::{Failed, Sink};
@@ -18,8 +19,8 @@ pub(crate) fn write_body<O: Sink>(
     closing: &[u8],
     out: &mut O,
 ) -> Result<(), Failed>
-    requires least { 64 ≤ spec.now.line }
-    requires most { spec.now.line ≤ 997 }
+    requires least { LEAST_LINE ≤ spec.now.line }
+    requires most { spec.now.line ≤ MOST_LINE }
     requires opening { opening.now ≡ text_before spec.now content.now }
     requires closing { closing.now ≡ text_behind spec.now content.now }
     ensures { let w = written O.Sink out.old out.new in
@@ -36,8 +37,8 @@ pub(crate) fn write_body<O: Sink>(
 
 // Writes the text of the data lines of a part's bytes.
 fn write_data<O: Sink>(content: &[u8], line: u16, out: &mut O) -> Result<(), Failed>
-    requires least { 64 ≤ line }
-    requires most { line ≤ 997 }
+    requires least { LEAST_LINE ≤ line }
+    requires most { line ≤ MOST_LINE }
     ensures { let w = written O.Sink out.old out.new in
         MatchResult result (λ _. WroteData WroteWhole line content.now w) (λ _. WroteData WroteFront line content.now w) }
 {

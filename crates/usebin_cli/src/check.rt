@@ -1,6 +1,6 @@
 // The command `check`.
 ghost use Rattle.std.specs.Prelude.{◌≡◌, ◌<◌, ◌^◌, None, length, sum_by};
-ghost use Rattle.nzb_index.specs.Canonical.{IsValidIndex};
+ghost use Rattle.nzb_writer.specs.Canonical.{IsValidIndex};
 ghost use Rattle.command_words.specs.CommandLine.Words.{Asks};
 ghost use Rattle.command_words.specs.CommandLine.Command.{Check};
 ghost use Rattle.input_files.specs.Reading.{reading};
@@ -14,7 +14,8 @@ use command_words::CheckWords;
 use input_files::{ReadError, read_file};
 use io_traits::{Failed, Input, Sink};
 use limits::MOST_TEXT_BYTES;
-use nzb_index::{FileEntry, Index, NzbError, NzbLimit, read_nzb};
+use nzb_index::{NzbError, NzbLimit, read_nzb};
+use nzb_writer::{FileEntry, Index};
 use run_ends::{End, Limit};
 use std::alloc::Global;
 

@@ -1,7 +1,7 @@
 // The command `index`.
 ghost use Rattle.std.specs.Prelude.{◌≡◌, None, IfOk};
 ghost use Rattle.std.specs.Option.{option_copied};
-ghost use Rattle.nzb_index.specs.Canonical.{IsValidIndex, nzb_text};
+ghost use Rattle.nzb_writer.specs.Canonical.{IsValidIndex, nzb_text};
 ghost use Rattle.command_words.specs.Index.{IsIndexAllowed, index_found};
 ghost use Rattle.input_files.specs.Reading.{reading};
 ghost use Rattle.command_words.specs.CommandLine.Words.{Asks};
@@ -18,7 +18,7 @@ use crate::printed::write_skipped;
 use command_words::IndexWords;
 use io_traits::{Input, Links, Sink};
 use lists::{Bytes, Memory};
-use nzb_index::{Index, write_nzb};
+use nzb_writer::{Index, write_nzb};
 use overview_index::{GroupError, IndexError, Indexed, run_index};
 use run_ends::{End, Limit};
 use std::alloc::Global;

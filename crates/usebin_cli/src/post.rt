@@ -12,6 +12,7 @@ ghost use Rattle.usebin_cli.specs.Post.{AreAllPosted, IsWholeEnd, Posts, posted_
 ghost use Rattle.usebin_cli.specs.PostText.{part_line, part_lines};
 ghost use Rattle.usebin_cli.specs.Steps.{PlansFile, PostsFile, Runs, TellsPosted};
 ghost use Rattle.usebin_cli.specs.Writing.{written};
+ghost use Rattle.limits.specs.declared.TheConstants.{LAST_MOMENT};
 
 use crate::ended::{Ended, note, write_behind};
 use crate::login::server_login;
@@ -21,7 +22,7 @@ use io_traits::{Input, Links, Sink};
 use limits::{MOST_FILE_BYTES, MOST_SEGMENTS};
 use lists::{Bytes, List, Memory, bytes_of};
 use nntp_lines::Login;
-use nzb_index::write_nzb;
+use nzb_writer::write_nzb;
 use poster::{PartEnd, Plan, PostError, Sent, Settings, plan, post_index, run_post};
 use run_ends::{End, Limit};
 use std::alloc::Global;
@@ -53,7 +54,7 @@ pub(crate) fn post<I: Input, L: Links, O: Sink, E: Sink>(
     err: &mut E,
 ) -> Ended
     requires allowed { IsPostAllowed (post_found asked) }
-    requires moment { moment ≤ 999999999999 }
+    requires moment { moment ≤ LAST_MOMENT }
     ensures { Runs (Asks (AsksPost (post_found asked.entry)))
         (Posts (post_found asked.entry) (I.files input.old) moment (reading I.Input input.old input.new) (linked L.Links links.old links.new))
         (reading I.Input input.old input.new) (written O.Sink out.old out.new) (written E.Sink err.old err.new) result }
@@ -163,7 +164,7 @@ fn tell_posted<O: Sink, E: Sink>(
     requires settings { AreSettings posted.now.file.settings }
     requires plan { IsPlanOf posted.now.file.settings posted.now.file.plan.size posted.now.file.plan }
     requires sent { AreOutcomes posted.now.file.plan posted.now.sent }
-    requires moment { moment ≤ 999999999999 }
+    requires moment { moment ≤ LAST_MOMENT }
     ensures { TellsPosted posted.now moment (written O.Sink out.old out.new) (written E.Sink err.old err.new) result }
 {
     let sent = posted.sent.as_slice();
@@ -204,7 +205,7 @@ fn index_text(alloc: Global, posted: &PostedFile, moment: u64) -> Result<Bytes, 
     requires settings { AreSettings posted.now.file.settings }
     requires plan { IsPlanOf posted.now.file.settings posted.now.file.plan.size posted.now.file.plan }
     requires sent { AreOutcomes posted.now.file.plan posted.now.sent }
-    requires moment { moment ≤ 999999999999 }
+    requires moment { moment ≤ LAST_MOMENT }
     ensures { IfOk result (λ text. text ≡ posted_text posted.now moment) }
 {
     let index = post_index(

@@ -9,6 +9,7 @@ ghost use Rattle.usebin_cli.specs.Linked.{linked};
 ghost use Rattle.usebin_cli.specs.Run.{EndsSo, IsInGrammar, IsOverLimit, IsStatusOf, Ran, ReadsNothing, UsesLinks};
 ghost use Rattle.usebin_cli.specs.Steps.{Runs};
 ghost use Rattle.usebin_cli.specs.Writing.{written, IsUntouched};
+ghost use Rattle.limits.specs.declared.TheConstants.{LAST_MOMENT};
 
 use crate::check::check;
 use crate::decode::decode;
@@ -49,7 +50,7 @@ pub fn usebin<I: Input, T: Store, L: Links, O: Sink, E: Sink>(
     err: &mut E,
     moment: u64,
 ) -> u8
-    requires { moment ≤ 999999999999 }
+    requires { moment ≤ LAST_MOMENT }
 
     // The run ended in some way: the status is that of this end, and what was read, said, heard and written, and the text
     // that `err` has got, are as the end says.
@@ -94,7 +95,7 @@ fn run<I: Input, L: Links, O: Sink, E: Sink>(
     err: &mut E,
     moment: u64,
 ) -> Ended
-    requires { moment ≤ 999999999999 }
+    requires { moment ≤ LAST_MOMENT }
     ensures runs { Runs (words_of (map string_bytes words.now)) (EndsSo (words_of (map string_bytes words.now)) (I.files input.old) moment (reading I.Input input.old input.new) (linked L.Links links.old links.new))
         (reading I.Input input.old input.new) (written O.Sink out.old out.new) (written E.Sink err.old err.new) result }
     ensures input { ReadsNothing (words_of (map string_bytes words.now)) → input.new ≡ input.old }

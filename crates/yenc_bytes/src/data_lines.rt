@@ -2,6 +2,7 @@
 ghost use Rattle.std.specs.Prelude.{◌≡◌, ◌≤◌, ◌<◌, ◌+◌, ◌==◌, ◌||◌, ℕ, List, ◌++◌, length, take, drop, slice_index, OnOk, OnErr};
 ghost use Rattle.landing_kernel.specs.Raising.{Raises};
 ghost use Rattle.yenc_bytes.specs.WriterLines.{writer_spelling, is_empty, IsWriterLine, AppendsData, OneCanonicalData};
+ghost use Rattle.limits.specs.declared.TheConstants.{LEAST_LINE, MOST_LINE};
 
 use crate::spelling::{Spelling, spell};
 use landing_kernel::raise;
@@ -11,11 +12,11 @@ use lists::{Lines, Memory};
 /// it room for a block of the kernel.
 pub const LONGEST_LINE: usize = 1030;
 
-/// Appends the data lines of a part's bytes, of a line length from 64 to 997 (yEnc draft 1.3, "Encoding Technique").
+/// Appends the data lines of a part's bytes, of a line length from `LEAST_LINE` to `MOST_LINE` (yEnc draft 1.3, "Encoding Technique").
 /// A part without bytes has none. Where memory runs out, the lines are as they were.
 pub fn encode_lines(bytes: &[u8], line: u16, out: &mut Lines) -> Result<(), Memory>
-    requires least { 64 ≤ line }
-    requires most { line ≤ 997 }
+    requires least { LEAST_LINE ≤ line }
+    requires most { line ≤ MOST_LINE }
     ensures ok { OnOk result (AppendsData line bytes.now out.old out.new) }
     ensures err { OnErr result (out.new ≡ out.old) }
 {
@@ -31,8 +32,8 @@ pub fn encode_lines(bytes: &[u8], line: u16, out: &mut Lines) -> Result<(), Memo
 
 // The same, but it leaves the lines that it has appended where memory runs out.
 fn append_lines(bytes: &[u8], line: u16, out: &mut Lines) -> Result<(), Memory>
-    requires least { 64 ≤ line }
-    requires most { line ≤ 997 }
+    requires least { LEAST_LINE ≤ line }
+    requires most { line ≤ MOST_LINE }
     ensures ok { OnOk result (AppendsData line bytes.now out.old out.new) }
     ensures err { OnErr result ((lines : List (List ℕ)) × (out.new ≡ out.old ++ lines)) }
 {
@@ -46,17 +47,17 @@ fn append_lines(bytes: &[u8], line: u16, out: &mut Lines) -> Result<(), Memory>
     Ok(())
 }
 
-/// Writes the next data line of a part's bytes to the front of a buffer, of a line length from 64 to 997 (yEnc draft 1.3,
+/// Writes the next data line of a part's bytes to the front of a buffer, of a line length from `LEAST_LINE` to `MOST_LINE` (yEnc draft 1.3,
 /// "Encoding Technique"). Answers how many of the bytes it has, and how long it is. There is a byte at least.
 pub fn fill_line(rest: &[u8], line: u16, buffer: &mut [u8; LONGEST_LINE]) -> (usize, usize)
-    requires least { 64 ≤ line }
-    requires most { line ≤ 997 }
+    requires least { LEAST_LINE ≤ line }
+    requires most { line ≤ MOST_LINE }
     requires some { 1 ≤ length rest.now }
     ensures line { let ends = is_empty (drop result.0 rest.now) in
         IsWriterLine line ends (take result.0 rest.now) (take result.1 buffer.new) }
     ensures some { 1 ≤ result.0 }
     ensures inside { result.0 ≤ length rest.now }
-    ensures room { result.1 ≤ 998 }
+    ensures room { result.1 ≤ MOST_LINE + 1 }
 {
     let width = usize::from(line);
     let mut used = 0;
@@ -84,7 +85,7 @@ fn fill_plain(
 ) -> usize
     requires inside { used < length rest.now }
     requires room { len < width }
-    requires most { width ≤ 997 }
+    requires most { width ≤ MOST_LINE }
     ensures inside { used + result < length rest.now }
     ensures room { len + result < width }
     ensures first { len ≡ 0 → result ≡ 0 }
@@ -112,7 +113,7 @@ fn spell_at(rest: &[u8], used: usize, len: usize, width: usize) -> Spelling
 
 // Puts a spelling behind the first characters of a buffer.
 fn put(buffer: &mut [u8; LONGEST_LINE], len: usize, spelling: Spelling)
-    requires room { len < 997 }
+    requires room { len < MOST_LINE }
     requires some { 1 ≤ spelling.len }
     requires two { spelling.len ≤ 2 }
     ensures { take (len + spelling.len) buffer.new ≡ take len buffer.old ++ take spelling.len spelling.bytes }

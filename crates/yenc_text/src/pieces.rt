@@ -1,6 +1,7 @@
 // The data lines of a part's bytes, as a text in pieces.
 ghost use Rattle.std.specs.Prelude.{◌≡◌, ◌≤◌, ◌+◌, [], ◌∷◌, ◌++◌, length, take};
 ghost use Rattle.yenc_text.specs.Text.{IsPiece};
+ghost use Rattle.limits.specs.declared.TheConstants.{LEAST_LINE, MOST_LINE};
 
 use yenc_bytes::{LONGEST_LINE, fill_line};
 
@@ -8,11 +9,11 @@ use yenc_bytes::{LONGEST_LINE, fill_line};
 pub const PIECE: usize = 65_536;
 
 /// Puts the text of the next data lines of a part's bytes to the front of a piece, as many as it has room for, of a line length
-/// from 64 to 997 (yEnc draft 1.3, "Encoding Technique"). Answers how many of the bytes they have, and how long their text
+/// from `LEAST_LINE` to `MOST_LINE` (yEnc draft 1.3, "Encoding Technique"). Answers how many of the bytes they have, and how long their text
 /// is. Where there are bytes, there is at least one line.
 pub fn fill_piece(rest: &[u8], line: u16, piece: &mut [u8; PIECE]) -> (usize, usize)
-    requires least { 64 ≤ line }
-    requires most { line ≤ 997 }
+    requires least { LEAST_LINE ≤ line }
+    requires most { line ≤ MOST_LINE }
     ensures text { IsPiece line rest.now result.0 (take result.1 piece.new) }
     ensures inside { result.0 ≤ length rest.now }
     ensures some { 1 ≤ length rest.now → 1 ≤ result.0 }

@@ -1,4 +1,5 @@
 -- The fields one after the other, with TABs between.
+use Rattle.std.proofs.Common.{ℕ, List, ◌∙◌, ap, length}
 use Rattle.news_spool.proofs.OverviewLines.{fields_joined}
 use Rattle.news_spool.proofs.overview.append_overview.Goals as goal
 
@@ -9,4 +10,5 @@ returns c =
     c.extend-5.new.self c.extend_number-2.new.self c.extend-6.new.self c.extend_number-3.new.self
     c.in_ok-extend_number.ensures c.in_ok-append_field.ensures c.in_ok-append_field-2.ensures c.in_ok-extend.ensures.ok c.in_ok-extend-2.ensures.ok
     c.in_ok-extend-3.ensures.ok c.in_ok-extend-4.ensures.ok c.in_ok-extend-5.ensures.ok c.in_ok-extend_number-2.ensures c.in_ok-extend-6.ensures.ok
-    c.in_ok-extend_number-3.ensures c.as_slice.ensures.bytes c.in_ok-octets.ensures c.len.ensures.count
+    c.in_ok-extend_number-3.ensures c.as_slice.ensures.bytes c.in_ok-octets.ensures
+    (c.len.ensures.count ∙ ap (λ (lines : List (List ℕ)). length lines) c.as_lines.ensures.lines)

@@ -1,6 +1,6 @@
 use Rattle.std.proofs.Common.{length, ◌-◌, ◌≡◌, ◌≤◌}
 use Rattle.std.specs.Prelude.{codes}
-use Rattle.nzb_index.specs.Nzb.{segment_count}
+use Rattle.nzb_writer.specs.Nzb.{segment_count}
 use Rattle.nzb_index.specs.NzbReading.{entry_item}
 use Rattle.nzb_index.proofs.Children.{StillChildren}
 use Rattle.nzb_index.proofs.entries.entries_end.Given as goal

@@ -1,14 +1,14 @@
 use Rattle.std.proofs.Common.{◌≡◌, ℕ, ◌+◌, ◌-◌, ◌<◌, Bool, true, List, length, take, drop, sym, ap, ◌∙◌, arith}
 use Rattle.std.specs.Prelude.{codes, bytes_eq}
 use Rattle.std.proofs.lemmas.Bool.{not-false}
-use Rattle.nzb_index.specs.Markup.{is_message_id, trimmed, number_of}
+use Rattle.nzb_writer.specs.Markup.{is_message_id, trimmed, number_of}
 use Rattle.nzb_index.specs.MarkupReading.{Tag}
-use Rattle.nzb_index.specs.Nzb.{segment_checks}
+use Rattle.nzb_writer.specs.Nzb.{segment_checks}
 use Rattle.nzb_index.specs.Elements.{bare}
 use Rattle.nzb_index.specs.Tags.{attributes_of}
 use Rattle.nzb_index.proofs.EntryEnds.{id_is_good, message_id_is, number_read, segment_number, segment_read}
 use Rattle.nzb_index.proofs.entries.segment_end.Goals as goal
-use Rattle.limits.specs.declared.TheConstants.{MOST_SEGMENTS}
+use Rattle.limits.specs.declared.TheConstants.{MOST_OCTETS, MOST_SEGMENTS}
 
 abbrev tag_of : List (List ℕ) → List (List ℕ) → Bool → Tag
 tag_of names values closed = record { attributes = attributes_of names values; closed = closed }
@@ -41,7 +41,7 @@ returns c =
     let max = c.from.ensures in
     let n = number_read segment_checks (codes "number") rest here mid 4294967295 tag.3 segment_number in
     let number : c.number-number.result ≡ number_of (codes "number") here.attributes = rw max at c.number-number.ensures.value ∙ n in
-    let b = number_read segment_checks (codes "bytes") rest here mid 999999999999 tag.3 (λ value h. h) in
+    let b = number_read segment_checks (codes "bytes") rest here mid MOST_OCTETS tag.3 (λ value h. h) in
     let word = c.as_slice.ensures in
     let name = take (c.args.behind - (c.args.from + 1)) (drop (c.args.from + 1) c.args.text.now) in
     let same : bytes_eq name (codes "segment") ≡ true = not-false (bytes_eq name (codes "segment")) (rw word at (sym c.ne.ensures ∙ c.if-ne.false)) in

@@ -1,6 +1,6 @@
 use Rattle.std.proofs.Common.{length, ◌-◌, ◌+◌, ◌≡◌, ◌≤◌, drop}
 use Rattle.std.specs.List.{prefix_len}
-use Rattle.nzb_index.specs.Markup.{is_name_byte}
+use Rattle.nzb_writer.specs.Markup.{is_name_byte}
 use Rattle.nzb_index.proofs.scan.name_end.Given as goal
 
 abbrev pub invariant-loop-end : goal.invariant-loop-end

@@ -1,5 +1,5 @@
 use Rattle.std.proofs.Common.{sym, subst}
-use Rattle.nzb_index.specs.Canonical.{IsValidIndex}
+use Rattle.nzb_writer.specs.Canonical.{IsValidIndex}
 use Rattle.poster.specs.Index.{IndexesArticles}
 use Rattle.poster.proofs.IndexLaws.{index_made, index_of_articles, index_valid}
 use Rattle.poster.proofs.index.post_index.Goals as goal

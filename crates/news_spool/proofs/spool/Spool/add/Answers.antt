@@ -1,5 +1,5 @@
 use Rattle.std.proofs.Common.{refl, rules}
-use Rattle.news_spool.specs.Articles.{new_article}
+use Rattle.held_articles.specs.Articles.{new_article}
 use Rattle.news_spool.proofs.Histories.{adds}
 use Rattle.news_spool.proofs.spool.Spool.add.Goals as goal
 

@@ -12,6 +12,7 @@ use Rattle.pipeline_core.proofs.Free.{next_found}
 use Rattle.pipeline_core.proofs.Placed.{placed-as, placed-next}
 use Rattle.pipeline_core.proofs.CallReads.{asker_read}
 use Rattle.pipeline_core.proofs.core_state.Core.give.Goals as goal
+use Rattle.limits.specs.declared.TheConstants.{MOST_SERVERS}
 
 pub ask-requires : goal.ask-requires
 ask-requires c =
@@ -43,7 +44,7 @@ invariant_of-self c =
     let p : Pipeline = record { links = c.self.inside.links.items; segments = c.self.inside.segments.items; levels = c.self.inside.levels.items; depth = c.self.inside.depth } in
     let asker = asker_read c.args.link c.args.segment c.index_mut-asker.result.now c.self.view_is c.requires.link c.requires.next c.index_mut-asker.ensures.value in
     let fits = c.self.invariant.sound.limited.each c.args.link c.index_mut-asker.result.now asker.there in
-    let small : c.index_mut-asker.result.now.server < 16 = omega (arith, fits.0, c.self.invariant.sound.limited.few_servers) in
+    let small : c.index_mut-asker.result.now.server < MOST_SERVERS = omega (arith, fits.0, c.self.invariant.sound.limited.few_servers) in
     let lows : c.note_asked.new.self.lows ≡ set c.self.inside.places.lows c.index_mut-asker.result.now.server (c.args.segment + 1) = c.note_asked.ensures.lows ∙ ap (λ v. set c.self.inside.places.lows v (c.args.segment + 1)) c.server-server.ensures in
     let waited : c.first_to_come-self-inside.result < length p.segments → is_arrived_at (slice_get p.segments c.first_to_come-self-inside.result) ≡ false = subst (λ (ss : List SegmentAt). c.first_to_come-self-inside.result < length ss → is_arrived_at (slice_get ss c.first_to_come-self-inside.result) ≡ false) c.deref.ensures.value c.first_to_come-self-inside.ensures.waited in
     record {

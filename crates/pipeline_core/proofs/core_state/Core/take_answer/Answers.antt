@@ -9,6 +9,7 @@ use Rattle.pipeline_core.proofs.Calls.{sound-reply, view-reply, oldest_within}
 use Rattle.pipeline_core.proofs.Placed.{placed-as, placed-reply}
 use Rattle.pipeline_core.proofs.CallReads.{link_read}
 use Rattle.pipeline_core.proofs.core_state.Core.take_answer.Goals as goal
+use Rattle.limits.specs.declared.TheConstants.{MOST_SERVERS}
 
 pub index_mut-requires : goal.index_mut-requires
 index_mut-requires c =
@@ -36,7 +37,7 @@ invariant_of-self c =
     let there : slice_get c.self.inside.segments.items c.take_oldest-segment.result ≡ Some c.index_mut-2.result.now = slice_get_read c.self.inside.segments.items (length c.self.inside.segments.items) c.take_oldest-segment.result c.index_mut-2.result.now refl below c.index_mut-2.ensures.value in
     let made : c.note.new.self ≡ with_outcome c.index_mut-asker.result.now.server c.args.outcome c.index_mut-2.result.now = c.note.ensures ∙ ap (λ v. with_outcome v c.args.outcome c.index_mut-2.result.now) c.server-server.ensures in
     let fits = c.self.invariant.sound.limited.each c.args.link c.index_mut-asker.result.now read in
-    let small : c.index_mut-asker.result.now.server < 16 = omega (arith, fits.0, c.self.invariant.sound.limited.few_servers) in
+    let small : c.index_mut-asker.result.now.server < MOST_SERVERS = omega (arith, fits.0, c.self.invariant.sound.limited.few_servers) in
     let fallen : (v low : ℕ) → slice_get c.note_answer.new.self.lows v ≡ Some low → HasFallen c.self.inside.places.lows c.index_mut-asker.result.now.server c.take_oldest-segment.result c.args.outcome v low =
     subst (λ (n : ℕ). (v low : ℕ) → slice_get c.note_answer.new.self.lows v ≡ Some low → HasFallen c.self.inside.places.lows n c.take_oldest-segment.result c.args.outcome v low) c.server-server.ensures c.note_answer.ensures.lows in
     let view : record { links = set p.links c.args.link c.take_oldest-segment.new.self; segments = set p.segments c.take_oldest-segment.result c.note.new.self; levels = p.levels; depth = p.depth } ≡ after_reply p c.args.link c.take_oldest-segment.result c.args.outcome =

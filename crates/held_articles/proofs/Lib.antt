@@ -1,0 +1,4 @@
+pub mod Ids
+pub mod OctetCounts
+pub mod Places
+pub mod Presence

@@ -1,0 +1,4 @@
+pub mod Articles
+pub mod ById
+pub mod Fields
+pub mod Octets

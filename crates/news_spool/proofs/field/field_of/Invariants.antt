@@ -1,6 +1,0 @@
-use Rattle.std.proofs.Common.{◌≡◌, drop}
-use Rattle.news_spool.specs.Fields.{field_of}
-use Rattle.news_spool.proofs.field.field_of.Given as goal
-
-abbrev pub invariant-loop-i : goal.invariant-loop-i
-invariant-loop-i l = field_of l.name (drop l.i l.head) ≡ field_of l.name l.head

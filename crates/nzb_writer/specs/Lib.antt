@@ -1,0 +1,3 @@
+pub mod Canonical
+pub mod Markup
+pub mod Nzb
