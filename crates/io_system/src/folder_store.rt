@@ -1,5 +1,6 @@
 // The store of files in the current folder. What they hold is not told, and neither is which call failed.
 ghost use Rattle.std.specs.Prelude.{◌≡◌, ◌≤◌, ◌<◌, ◌==◌, ℕ, [], None, false, true, if◌then◌else◌, length, vec_len, vec_capacity, IfSome, IsTrue, OnOk, OnErr};
+ghost use Rattle.io_traits.specs.Causes.{Rose, next_count};
 ghost use Rattle.io_traits.specs.Store.{is_created, Creates, Keeps};
 ghost use Rattle.io_system.specs.FolderStore.{numbers_of, Forgets};
 
@@ -52,6 +53,20 @@ impl<R: Files + Drop> FolderStore<R> {
     pub fn reason(&self) -> Option<&io::Error> {
         self.reason.as_ref()
     }
+
+    // Counts a failed call, and keeps why it failed.
+    fn fail(&mut self, error: io::Error) -> Failed
+        ensures faults { self.new.faults ≡ next_count self.old.faults }
+        ensures later { self.old.faults ≤ self.new.faults }
+        ensures rose { Rose self.old.faults self.new.faults }
+        ensures last { self.new.has_failed ≡ true }
+        ensures names { self.new.names ≡ self.old.names }
+    {
+        self.reason = Some(error);
+        self.faults = raised(self.faults);
+        self.has_failed = true;
+        Failed
+    }
 }
 
 impl<R: Files + Drop> Store for FolderStore<R> {
@@ -73,12 +88,7 @@ impl<R: Files + Drop> Store for FolderStore<R> {
                 self.has_failed = false;
                 Ok(())
             }
-            Err(error) => {
-                self.reason = Some(error);
-                self.faults = raised(self.faults);
-                self.has_failed = true;
-                Err(Failed)
-            }
+            Err(error) => Err(self.fail(error)),
         }
     }
 
@@ -88,12 +98,7 @@ impl<R: Files + Drop> Store for FolderStore<R> {
                 self.has_failed = false;
                 Ok(())
             }
-            Err(error) => {
-                self.reason = Some(error);
-                self.faults = raised(self.faults);
-                self.has_failed = true;
-                Err(Failed)
-            }
+            Err(error) => Err(self.fail(error)),
         }
     }
 
@@ -103,12 +108,7 @@ impl<R: Files + Drop> Store for FolderStore<R> {
                 self.has_failed = false;
                 Ok(())
             }
-            Err(error) => {
-                self.reason = Some(error);
-                self.faults = raised(self.faults);
-                self.has_failed = true;
-                Err(Failed)
-            }
+            Err(error) => Err(self.fail(error)),
         }
     }
 
@@ -118,12 +118,7 @@ impl<R: Files + Drop> Store for FolderStore<R> {
                 self.has_failed = false;
                 Ok(())
             }
-            Err(error) => {
-                self.reason = Some(error);
-                self.faults = raised(self.faults);
-                self.has_failed = true;
-                Err(Failed)
-            }
+            Err(error) => Err(self.fail(error)),
         }
     }
 }
