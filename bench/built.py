@@ -25,9 +25,9 @@ def crates_below(uses):
     return found
 
 
-def build(folder, name, uses, main):
+def build(folder, name, uses, main, words=()):
     """Builds the program of this name, whose text is `main` and which uses these crates, in a folder. They and those below them are
-    copied from the repository."""
+    copied from the repository. `words` are further ones for the build, such as the processor that it is for."""
     crates = crates_below(uses)
     for crate in crates:
         for part in ("src", "specs", "proofs"):
@@ -40,7 +40,7 @@ def build(folder, name, uses, main):
         file.write("".join(crates.values()) + f"{name}: {' '.join(uses)}\n")
     with open(os.path.join(home, "src", "main.rt"), "w", encoding="utf-8") as file:
         file.write(main)
-    built = subprocess.run(["rt", "run"], cwd=home, capture_output=True, text=True)
+    built = subprocess.run(["rt", "run", *words], cwd=home, capture_output=True, text=True)
     if built.returncode != 0:
         sys.exit(built.stdout + built.stderr)
     return os.path.join(home, "out", name)

@@ -11,6 +11,8 @@ mod bodies;
 #[cfg(test)]
 mod decoding;
 #[cfg(test)]
+mod in_place;
+#[cfg(test)]
 mod landings;
 #[cfg(test)]
 mod reading;

@@ -50,6 +50,20 @@ impl Bytes {
         &self.items
     }
 
+    /// The bytes in the room that they have.
+    pub fn into_vec(self) -> Vec<u8>
+        ensures { result.items ≡ self }
+    {
+        self.items
+    }
+
+    /// The bytes of a vector, in the room that it has.
+    pub fn from_vec(items: Vec<u8>) -> Self
+        ensures { result ≡ items.items }
+    {
+        Bytes { items }
+    }
+
     /// Drops all bytes.
     pub fn clear(&mut self)
         ensures { self.new ≡ [] }

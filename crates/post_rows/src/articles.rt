@@ -50,7 +50,7 @@ fn a_line_of_one_dot_is_sent_as_two(rt: HostRuntime) {
 }
 
 // Asserts that the next article, of the third part, is shorter.
-fn third_is_shorter<R: Abort>(rt: &R, desk: Desk, file: &[u8]) -> Desk
+fn third_is_shorter<R: Abort + AllocGlobal>(rt: &R, desk: Desk, file: &[u8]) -> Desk
     requires settings { AreSettings desk.planned.settings }
     requires plan { IsPlanOf desk.planned.settings desk.planned.plan.size desk.planned.plan }
 {

@@ -4,6 +4,7 @@ ghost use Rattle.poster.specs.Plan.{IsPlanOf};
 ghost use Rattle.poster.specs.Settings.{AreSettings};
 
 use article_head::{is_comment, is_domain, is_file_name, is_from, is_newsgroups, is_token};
+use dot_blocks::split_block;
 use limits::{LEAST_LINE, MOST_LINE, MOST_PATIENCE};
 use lists::{Bytes, Lines};
 use poster::{Plan, Settings, plan, write_article};
@@ -101,8 +102,11 @@ pub(crate) struct Desk {
     pub(crate) planned: Planned,
     /// How many octets the article has.
     pub(crate) octets: u64,
+    /// Its lines, read back from the block.
     pub(crate) lines: Lines,
     pub(crate) block: Bytes,
+    // The room of its head.
+    head: Lines,
 }
 
 /// A desk without an article.
@@ -114,11 +118,12 @@ pub(crate) fn desk_of<R: Abort + AllocGlobal>(rt: &R, planned: Planned) -> Desk
         octets: 0,
         lines: Lines::new(rt.alloc()),
         block: Bytes::new(rt.alloc()),
+        head: Lines::new(rt.alloc()),
     }
 }
 
 /// Makes the article of a part of a file, counted from 1, of the file's bytes, in place of the last one.
-pub(crate) fn make<R: Abort>(rt: &R, desk: Desk, part: u32, file: &[u8]) -> Desk
+pub(crate) fn make<R: Abort + AllocGlobal>(rt: &R, desk: Desk, part: u32, file: &[u8]) -> Desk
     requires settings { AreSettings desk.planned.settings }
     requires plan { IsPlanOf desk.planned.settings desk.planned.plan.size desk.planned.plan }
     ensures { result.planned ≡ desk.planned }
@@ -126,19 +131,22 @@ pub(crate) fn make<R: Abort>(rt: &R, desk: Desk, part: u32, file: &[u8]) -> Desk
     let Desk {
         planned,
         octets: _,
-        mut lines,
+        lines: _,
         mut block,
+        mut head,
     } = desk;
     let Planned { settings, plan } = planned;
-    let octets = make_article(&settings, &plan, part, file, &mut lines, &mut block).expect(
+    let octets = make_article(&settings, &plan, part, file, &mut head, &mut block).expect(
         rt,
         "an article",
     );
+    let lines = split_block(rt.alloc(), block.as_slice()).expect(rt, "a block");
     Desk {
         planned: Planned { settings, plan },
         octets,
         lines,
         block,
+        head,
     }
 }
 
@@ -148,7 +156,7 @@ fn make_article(
     plan: &Plan,
     part: u32,
     file: &[u8],
-    lines: &mut Lines,
+    head: &mut Lines,
     block: &mut Bytes,
 ) -> Option<u64>
     requires settings { AreSettings settings.now }
@@ -164,7 +172,7 @@ fn make_article(
     if bytes.len() as u64 != planned.len {
         return None;
     }
-    write_article(settings, plan, part, bytes, lines, block).ok()
+    write_article(settings, plan, part, bytes, head, block).ok()
 }
 
 /// Asserts that the article has these lines, with bars between them.

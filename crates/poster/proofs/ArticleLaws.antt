@@ -1,30 +1,31 @@
 -- The articles of a file.
-use Rattle.std.proofs.Common.{◌≡◌, ℕ, ◌+◌, ◌*◌, ◌≤◌, true, Some, List, [], ◌∷◌, ◌++◌, length, get_or, slice_get, take, refl, sym, ap, subst, ◌∙◌, arith, lit≤, length-append}
-use Rattle.std.specs.Prelude.{All, sum_by}
+use Rattle.std.proofs.Common.{◌≡◌, ℕ, ◌+◌, ◌-◌, ◌*◌, ◌≤◌, true, List, [], ◌∷◌, ◌++◌, length, refl, sym, ap, subst, ◌∙◌, arith, lit≤, length-append}
+use Rattle.std.specs.Prelude.{All}
 use Rattle.std.specs.List.{list_all}
 use Rattle.std.proofs.lemmas.Bool.{and_parts}
 use Rattle.std.proofs.lemmas.Bool.Decides.{nat_tests}
-use Rattle.std.proofs.lemmas.List.Elements.{All-head, All-tail, All-weaker}
+use Rattle.std.proofs.lemmas.List.Elements.{All-head, All-tail, All-weaker, recursion_from_All}
 use Rattle.std.proofs.lemmas.List.Folds.{list_all-append}
-use Rattle.std.proofs.lemmas.List.Sums.{sum_by_more, sum_by_more_le}
-use Rattle.std.proofs.lemmas.Option.{get_or_from_slice_get, slice_get_within}
 use Rattle.article_head.specs.Field.{IsFileName}
 use Rattle.article_head.specs.Head.{IsFieldLine}
 use Rattle.article_head.proofs.HeadLaws.{head_is_fields}
 use Rattle.article_head.proofs.PartIdLaws.{part_id_is_message_id}
 use Rattle.article_head.proofs.TextLaws.{wider_passed}
 use Rattle.dot_blocks.specs.Blocks.{HoldsNoLineEnd, IsBlock, stuffed}
+use Rattle.dot_blocks.proofs.Stuffed.{is_block}
 use Rattle.nntp_lines.specs.Command.{is_printable}
 use Rattle.yenc_bytes.proofs.OneData.{one_canonical_data}
-use Rattle.yenc_body.specs.Canonical.{AppendsBody, IsCanonicalBody, IsPart}
+use Rattle.yenc_body.specs.Canonical.{IsCanonicalBody, IsPart}
 use Rattle.yenc_body.specs.Parts.{most_bytes, most_parts, part_bytes, part_length, part_place, parts_of}
 use Rattle.yenc_body.specs.declared.spec.BodySpec.{BodySpec}
 use Rattle.yenc_body.proofs.PartLaws.{is_part, place_before}
 use Rattle.yenc_lines.specs.Name.{IsName, has_no_line_end}
-use Rattle.poster.specs.Article.{AreArticles, AreArticlesFrom, Article, HasArticleLines, IsArticle, IsWritten, head_of, lines_of, octets_of_line, spec_for}
+use Rattle.poster.specs.Article.{AreArticles, AreArticlesFrom, Article, IsArticle, IsWritten, head_of, lines_of, octets_of, spec_for}
 use Rattle.poster.specs.Plan.{IsPartNumber, id_of}
 use Rattle.poster.specs.Settings.{AreSettings}
 use Rattle.poster.specs.declared.settings.Settings.{Settings}
+use Rattle.poster.specs.Wire.{SendsArticle, SendsBody, SendsLines}
+use Rattle.poster.proofs.WireLemmas.{sends_both, stuffed_wire}
 use Rattle.poster.proofs.BodyLines.{ArePlain, AreShort, IsSmall, body_short, fewer, line_more, lines_more, no_lines}
 use Rattle.poster.proofs.ShortText.{IsShort, ends_no_line}
 use Rattle.limits.specs.declared.TheConstants.{MOST_OCTETS}
@@ -141,25 +142,24 @@ hold_no_line_end s size part bytes a settings small few number len is = (article
 
 -- ---- the article that is made
 
--- a head and a body behind it are an article
-pub article_made : (s : Settings) (size part total : ℕ) (bytes id : List ℕ) (old between new : List (List ℕ)) → old ≡ [] → between ≡ old ++ head_of s part total id → total ≡ parts_of size s.part_size → id ≡ id_of s size part
-    → AppendsBody (spec_for s size part) bytes between new → HasArticleLines s size part bytes new
-article_made s size part total bytes id old between new none head total_is id_is (body, appended, canonical) =
-    let first : between ≡ head_of s part total id = head ∙ ap (λ lines. lines ++ head_of s part total id) none in (
+-- a head and a body behind it are sent as an article
+pub article_sent : (s : Settings) (size part total : ℕ) (bytes id : List ℕ) (old lines : List (List ℕ)) (before between new : List ℕ) (m n : ℕ) → old ≡ [] → lines ≡ old ++ head_of s part total id → total ≡ parts_of size s.part_size
+    → id ≡ id_of s size part → before ≡ [] → SendsLines lines before between m → SendsBody (spec_for s size part) bytes between new n → SendsArticle s size part bytes new (m + n)
+article_sent s size part total bytes id old lines before between new m n none head total_is id_is empty first (body, canonical, second) =
+    let head_is : lines ≡ head_of s part total id = head ∙ ap (λ ls. ls ++ head_of s part total id) none in
+    let both : SendsLines (lines ++ body) before new (m + n) = sends_both lines body before between new m n first second in (
       made id (head_of s part total id) body,
-      record { id_is = id_is; head_is = ap (λ n. head_of s part n id) total_is; body_is = canonical },
-      appended ∙ ap (λ lines. lines ++ body) first,
+      record { id_is = id_is; head_is = ap (λ k. head_of s part k id) total_is; body_is = canonical },
+      subst (λ ls. SendsLines (ls ++ body) [] new (m + n)) head_is (subst (λ o. SendsLines (lines ++ body) o new (m + n)) empty both),
     )
 
--- the lines of an article have at most so many octets
-pub octets_most : (s : Settings) (size part : ℕ) (bytes : List ℕ) (lines : List (List ℕ)) → AreSettings s → size ≤ most_bytes → parts_of size s.part_size ≤ most_parts → IsPartNumber size s.part_size part
-    → length bytes ≡ part_length size s.part_size part → HasArticleLines s size part bytes lines → sum_by octets_of_line lines ≤ MOST_OCTETS
-octets_most s size part bytes lines settings small few number len (a, is, whole) = rw whole ((article_short s size part bytes a settings small few number len is).short)
+-- how many bytes an article has as it is sent
+pub length_sent : (s : Settings) (size part : ℕ) (bytes new : List ℕ) (dots : ℕ) → (sent : SendsArticle s size part bytes new dots) → length new ≡ octets_of sent.0 + dots
+length_sent s size part bytes new dots (a, is, sends) = ap length sends.wire_is ∙ sends.dots_are
 
--- no line of an article holds CR LF
-pub lines_hold_none : (s : Settings) (size part : ℕ) (bytes : List ℕ) (lines : List (List ℕ)) → AreSettings s → size ≤ most_bytes → parts_of size s.part_size ≤ most_parts → IsPartNumber size s.part_size part
-    → length bytes ≡ part_length size s.part_size part → HasArticleLines s size part bytes lines → All HoldsNoLineEnd lines
-lines_hold_none s size part bytes lines settings small few number len (a, is, whole) = rw whole (plain_hold_none (lines_of a) ((article_short s size part bytes a settings small few number len is).plain))
+-- the head of an article has five lines
+pub head_count : (s : Settings) (part total : ℕ) (id : List ℕ) (old lines : List (List ℕ)) → old ≡ [] → lines ≡ old ++ head_of s part total id → length lines ≡ 5
+head_count s part total id old lines none is = ap length (is ∙ ap (λ ls. ls ++ head_of s part total id) none)
 
 -- what the body is made for is a part that it can be made of
 pub spec_is_part : (s : Settings) (size part len : ℕ) (spec : BodySpec) → AreSettings s → size ≤ most_bytes → IsPartNumber size s.part_size part → len ≡ part_length size s.part_size part → spec ≡ spec_for s size part
@@ -174,31 +174,19 @@ pub spec_made : (s : Settings) (size part total first : ℕ) (name : List ℕ) �
     → spec_with name part total first size s.line ≡ spec_for s size part
 spec_made s size part total first name n t f = rw (n, t, f) refl
 
--- the article and its block
-pub article_written : (s : Settings) (size part octets : ℕ) (bytes : List ℕ) (lines : List (List ℕ)) (old block : List ℕ) → HasArticleLines s size part bytes lines → octets ≡ sum_by octets_of_line lines
-    → sum_by octets_of_line lines ≤ MOST_OCTETS → old ≡ [] → block ≡ old ++ stuffed lines → IsBlock lines (stuffed lines) → IsWritten s size part bytes lines block octets
-article_written s size part octets bytes lines old block (a, is, whole) octets_are most none stuffed_is is_block =
-    let block_is : block ≡ stuffed (lines_of a) = stuffed_is ∙ ap (λ bs. bs ++ stuffed lines) none ∙ ap (λ ls. stuffed ls) whole in
+-- the article's block, and its octets
+pub article_written : (s : Settings) (size part octets dots : ℕ) (bytes sent block : List ℕ) → AreSettings s → size ≤ most_bytes → parts_of size s.part_size ≤ most_parts → IsPartNumber size s.part_size part
+    → length bytes ≡ part_length size s.part_size part → SendsArticle s size part bytes sent dots → octets ≡ length sent - dots → block ≡ sent ++ 46 ∷ 13 ∷ 10 ∷ [] → IsWritten s size part bytes block octets
+article_written s size part octets dots bytes sent block settings small few number len (a, is, sends) octets_are closed =
+    let short : AreShort MOST_OCTETS (lines_of a) = article_short s size part bytes a settings small few number len is in
+    let long = length_sent s size part bytes sent dots (a, is, sends) in
+    let block_is : block ≡ stuffed (lines_of a) = closed ∙ ap (λ t. t ++ 46 ∷ 13 ∷ 10 ∷ []) sends.wire_is ∙ sym (stuffed_wire (lines_of a)) in
+    let count : octets ≡ octets_of a = omega (arith, octets_are, long) in
     record {
       article = a;
       is_article = is;
-      lines_are = whole;
       block_is = block_is;
-      is_block = subst (IsBlock (lines_of a)) (sym block_is) (subst (λ (ls : List (List ℕ)). IsBlock ls (stuffed ls)) whole is_block);
-      octets_are = octets_are ∙ ap (sum_by octets_of_line) whole;
-      octets_most = omega (arith, octets_are, most);
+      is_block = subst (IsBlock (lines_of a)) (sym block_is) (is_block (lines_of a) (recursion_from_All HoldsNoLineEnd (lines_of a) (plain_hold_none (lines_of a) short.plain)));
+      octets_are = count;
+      octets_most = omega (arith, count, short.short);
     }
-
--- ---- the octets of lines
-
-pub octets_more : (lines : List (List ℕ)) (i octets : ℕ) (line : List ℕ) → slice_get lines i ≡ Some line → octets ≡ sum_by octets_of_line (take i lines)
-    → octets + (length line + 2) ≡ sum_by octets_of_line (take (i + 1) lines)
-octets_more lines i octets line read so_far =
-    let at : get_or lines i line ≡ line = get_or_from_slice_get lines i line line read in
-    omega (arith, so_far, ap length at, sum_by_more octets_of_line lines i line (slice_get_within lines i line read))
-
-pub octets_fit : (lines : List (List ℕ)) (i octets : ℕ) (line : List ℕ) → slice_get lines i ≡ Some line → octets ≡ sum_by octets_of_line (take i lines)
-    → octets + (length line + 2) ≤ sum_by octets_of_line lines
-octets_fit lines i octets line read so_far =
-    let at : get_or lines i line ≡ line = get_or_from_slice_get lines i line line read in
-    omega (arith, so_far, ap length at, sum_by_more_le octets_of_line lines i line (slice_get_within lines i line read))

@@ -62,9 +62,9 @@ pub piece_of : (content : Option (List ℕ)) (place : ℕ) (bytes read : List �
 piece_of content place bytes read same piece = subst (λ (l : List ℕ). IsPiece content place l) (sym same) piece
 
 -- a part that was read and written is made
-pub part_made : (s : Settings) (size : ℕ) (content : Option (List ℕ)) (part place : ℕ) (bytes : List ℕ) (lines : List (List ℕ)) (made : Made) → place ≡ part_place s.part_size part → IsPiece content place bytes → length bytes ≡ part_length size s.part_size part →
-    IsWritten s size part bytes lines made.block made.octets → IsMade s size content part made
-part_made s size content part place bytes lines made is piece long w = record {
+pub part_made : (s : Settings) (size : ℕ) (content : Option (List ℕ)) (part place : ℕ) (bytes : List ℕ) (made : Made) → place ≡ part_place s.part_size part → IsPiece content place bytes → length bytes ≡ part_length size s.part_size part →
+    IsWritten s size part bytes made.block made.octets → IsMade s size content part made
+part_made s size content part place bytes made is piece long w = record {
   bytes = bytes;
   told = subst (λ n. IsPiece content n bytes) is piece;
   length_is = long;

@@ -1,24 +1,19 @@
 -- The index of a file that was posted.
-use Rattle.std.proofs.Common.{◌≡◌, ℕ, zero, suc, ◌+◌, ◌-◌, ◌≤◌, ◌<◌, ◌&&◌, Bool, true, false, List, [], ◌∷◌, ◌++◌, length, get_or, take, refl, sym, ap, subst, ◌∙◌, arith, lit≤, add-zero}
+use Rattle.std.proofs.Common.{◌≡◌, ℕ, zero, suc, ◌+◌, ◌≤◌, ◌<◌, true, List, [], ◌∷◌, ◌++◌, length, get_or, take, refl, sym, ap, subst, ◌∙◌, arith, lit≤, add-zero}
 use Rattle.std.specs.Prelude.{All, IsPermutation, map, nat_le}
-use Rattle.std.specs.List.{AllByRecursion, list_all, prefix_len, range_with_len, suffix_len}
-use Rattle.std.proofs.lemmas.Bool.{and_from, and_parts, le-leb}
+use Rattle.std.specs.List.{AllByRecursion, list_all, range_with_len}
 use Rattle.std.proofs.lemmas.Bool.Decides.{nat_tests}
-use Rattle.std.proofs.lemmas.List.{take_all}
 use Rattle.std.proofs.lemmas.List.Elements.{All-head, All-tail, All-weaker, recursion_from_All}
 use Rattle.std.proofs.lemmas.List.FromFn.{length-map-range_with_len}
 use Rattle.std.proofs.lemmas.List.Sorted.{IsPermutation-refl}
-use Rattle.std.proofs.lemmas.List.Sums.{suffix_len_is}
 use Rattle.article_head.specs.Subject.{subject_text}
 use Rattle.article_head.proofs.HeadLaws.{subject_printable}
 use Rattle.article_head.proofs.PartIdLaws.{part_id_is_message_id}
 use Rattle.article_head.proofs.Pieces.{names_are_pieces}
 use Rattle.nntp_lines.specs.Command.{is_printable}
 use Rattle.nntp_lines.specs.GroupName.{IsGroupName}
-use Rattle.nntp_lines.specs.MessageId.{IsMessageId, is_id_byte}
 use Rattle.nzb_writer.specs.Canonical.{IsValidFile, IsValidIndex}
-use Rattle.nzb_writer.specs.Markup.{IsTextBytes, is_control, is_message_id, is_white, trimmed}
-use Rattle.nzb_writer.specs.Markup as nzb
+use Rattle.nzb_writer.specs.Markup.{IsTextBytes, is_message_id, trimmed}
 use Rattle.nzb_writer.specs.declared.index.FileEntry.{FileEntry}
 use Rattle.nzb_writer.specs.declared.index.Index.{Index}
 use Rattle.nzb_writer.specs.declared.index.Meta.{Meta}

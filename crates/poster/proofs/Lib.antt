@@ -13,3 +13,4 @@ mod SessionRows
 pub mod SessionSteps
 pub mod ShortText
 pub mod StopLemmas
+pub mod WireLemmas

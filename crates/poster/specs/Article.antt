@@ -55,15 +55,10 @@ octets_of_line line = length line + 2
 abbrev pub octets_of : Article → ℕ
 octets_of a = sum_by octets_of_line (lines_of a)
 
--- the lines are those of the article of a part
-abbrev pub HasArticleLines : Settings → (size part : ℕ) → List ℕ → List (List ℕ) → Type 0
-HasArticleLines s size part bytes lines = (a : Article) × IsArticle s size part bytes a × (lines ≡ lines_of a)
-
--- the lines of the article of a part, the block of them, and how many octets the article has
-pub record IsWritten (s : Settings) (size part : ℕ) (bytes : List ℕ) (lines : List (List ℕ)) (block : List ℕ) (octets : ℕ) : Type 0 where
+-- the block of the article of a part, and how many octets the article has
+pub record IsWritten (s : Settings) (size part : ℕ) (bytes block : List ℕ) (octets : ℕ) : Type 0 where
   pub article : Article
   pub is_article : IsArticle s size part bytes article
-  pub lines_are : lines ≡ lines_of article
   pub block_is : block ≡ stuffed (lines_of article)
   pub is_block : IsBlock (lines_of article) block
   pub octets_are : octets ≡ octets_of article

@@ -6,3 +6,4 @@ pub mod Said
 pub mod Session
 pub mod SessionLaws
 pub mod Settings
+pub mod Wire

@@ -1,28 +1,30 @@
 // The article of a part.
-ghost use Rattle.std.specs.Prelude.{◌≡◌, ◌≤◌, ◌++◌, [], length, IfOk, OnOk, OnErr, sum_by};
-ghost use Rattle.yenc_body.specs.Canonical.{AppendsBody};
+ghost use Rattle.std.specs.Prelude.{◌≡◌, ◌≤◌, ◌++◌, [], length, IfOk, OnOk, OnErr};
 ghost use Rattle.yenc_body.specs.Parts.{part_length};
-ghost use Rattle.poster.specs.Article.{HasArticleLines, IsWritten, head_of, octets_of_line, spec_for};
+ghost use Rattle.poster.specs.Article.{IsWritten, head_of, spec_for};
 ghost use Rattle.poster.specs.Plan.{IsPlanOf};
 ghost use Rattle.poster.specs.Settings.{AreSettings};
-ghost use Rattle.limits.specs.declared.TheConstants.{MOST_OCTETS};
+ghost use Rattle.poster.specs.Wire.{SendsArticle, SendsBody};
 
+use crate::room::make_room;
+use crate::wire::{push_data, push_lines};
 use crate::{Plan, Settings};
 use article_head::{Head, write_head};
-use dot_blocks::stuff;
 use lists::{Bytes, Lines, Memory};
 use nntp_lines::MessageId;
-use yenc_body::{BodySpec, write_body};
+use yenc_body::BodySpec;
+use yenc_text::{push_closing, push_opening};
 
-/// Makes the article of a part, counted from 1, of the part's bytes: its lines, and the block of them as it is sent
-/// (RFC 3977, 3.1.1). It answers how many octets the article has before it is stuffed, with CRLF behind each line, at most
-/// `MOST_OCTETS`. What the two buffers held before is dropped, and where memory runs out they are empty.
+/// Makes the article of a part, counted from 1, of the part's bytes, as the block that is sent (RFC 3977, 3.1.1), beside the
+/// lines of its head. It answers how many octets the article has before it is stuffed, with CRLF behind each line, at most
+/// `MOST_OCTETS`. What the two buffers held before is dropped, and where memory runs out they are empty. Buffers that served a
+/// part of as many bytes, with the same settings, have the room already.
 pub fn write_article(
     settings: &Settings,
     plan: &Plan,
     part: u32,
     bytes: &[u8],
-    lines: &mut Lines,
+    head: &mut Lines,
     block: &mut Bytes,
 ) -> Result<u64, Memory>
     requires settings { AreSettings settings.now }
@@ -30,15 +32,15 @@ pub fn write_article(
     requires first { 1 ≤ part }
     requires last { part ≤ length plan.now.parts }
     requires bytes { length bytes.now ≡ part_length plan.now.size settings.now.part_size part }
-    ensures ok { IfOk result (IsWritten settings.now plan.now.size part bytes.now lines.new block.new) }
-    ensures err { OnErr result ((lines.new ≡ []) × (block.new ≡ [])) }
+    ensures ok { IfOk result (IsWritten settings.now plan.now.size part bytes.now block.new) }
+    ensures err { OnErr result ((head.new ≡ []) × (block.new ≡ [])) }
 {
-    lines.clear();
+    head.clear();
     block.clear();
-    match make_article(settings, plan, part, bytes, lines, block) {
+    match make_article(settings, plan, part, bytes, head, block) {
         Ok(octets) => Ok(octets),
         Err(Memory) => {
-            lines.clear();
+            head.clear();
             block.clear();
             Err(Memory)
         }
@@ -51,7 +53,7 @@ fn make_article(
     plan: &Plan,
     part: u32,
     bytes: &[u8],
-    lines: &mut Lines,
+    head: &mut Lines,
     block: &mut Bytes,
 ) -> Result<u64, Memory>
     requires settings { AreSettings settings.now }
@@ -59,37 +61,41 @@ fn make_article(
     requires first { 1 ≤ part }
     requires last { part ≤ length plan.now.parts }
     requires bytes { length bytes.now ≡ part_length plan.now.size settings.now.part_size part }
-    requires no_line { lines.old ≡ [] }
+    requires no_line { head.old ≡ [] }
     requires no_byte { block.old ≡ [] }
-    ensures { IfOk result (IsWritten settings.now plan.now.size part bytes.now lines.new block.new) }
+    ensures { IfOk result (IsWritten settings.now plan.now.size part bytes.now block.new) }
 {
-    push_lines(settings, plan, part, bytes, lines)?;
-    let octets = octets_of(lines);
-    block.reserve(octets as usize)?;
-    stuff(lines, block)?;
+    make_room(bytes.len(), settings.line, head, block)?;
+    let dots = push_article(settings, plan, part, bytes, head, block)?;
+    let octets = (block.len() - dots) as u64;
+    block.extend(b".\r\n")?;
     Ok(octets)
 }
 
-// Appends the lines of the article.
-fn push_lines(
+// Appends the article but for the dot that ends its block, and answers how many dots it has more.
+fn push_article(
     settings: &Settings,
     plan: &Plan,
     part: u32,
     bytes: &[u8],
-    lines: &mut Lines,
-) -> Result<(), Memory>
+    head: &mut Lines,
+    block: &mut Bytes,
+) -> Result<usize, Memory>
     requires settings { AreSettings settings.now }
     requires plan { IsPlanOf settings.now plan.now.size plan.now }
     requires first { 1 ≤ part }
     requires last { part ≤ length plan.now.parts }
     requires bytes { length bytes.now ≡ part_length plan.now.size settings.now.part_size part }
-    requires no_line { lines.old ≡ [] }
-    ensures { OnOk result (HasArticleLines settings.now plan.now.size part bytes.now lines.new) }
+    requires no_line { head.old ≡ [] }
+    requires no_byte { block.old ≡ [] }
+    ensures { IfOk result (SendsArticle settings.now plan.now.size part bytes.now block.new) }
 {
     let planned = &plan.parts.as_slice()[part as usize - 1];
     let total = plan.parts.len() as u32;
-    push_head(settings, part, total, &planned.id, lines)?;
-    push_body(settings, plan, part, bytes, lines)
+    push_head(settings, part, total, &planned.id, head)?;
+    let in_head = push_lines(head, block)?;
+    let in_body = push_body(settings, plan, part, bytes, block)?;
+    Ok(in_head + in_body)
 }
 
 fn push_head(
@@ -114,22 +120,28 @@ fn push_head(
     write_head(&head, lines)
 }
 
+// Appends the lines of the body as they are sent, and answers how many dots they have more.
 fn push_body(
     settings: &Settings,
     plan: &Plan,
     part: u32,
     bytes: &[u8],
-    lines: &mut Lines,
-) -> Result<(), Memory>
+    block: &mut Bytes,
+) -> Result<usize, Memory>
     requires settings { AreSettings settings.now }
     requires plan { IsPlanOf settings.now plan.now.size plan.now }
     requires first { 1 ≤ part }
     requires last { part ≤ length plan.now.parts }
     requires bytes { length bytes.now ≡ part_length plan.now.size settings.now.part_size part }
-    ensures { OnOk result (AppendsBody (spec_for settings.now plan.now.size part) bytes.now lines.old lines.new) }
+    ensures body { IfOk result (SendsBody (spec_for settings.now plan.now.size part) bytes.now block.old block.new) }
+    ensures few { IfOk result (λ dots. dots ≤ length bytes.now) }
 {
     let spec = spec_of(settings, plan, part)?;
-    write_body(&spec, bytes, lines)
+    // A keyword line begins with `=y`, and so needs no dot.
+    push_opening(&spec, bytes, block)?;
+    let dots = push_data(bytes, spec.line, block)?;
+    push_closing(&spec, bytes, block)?;
+    Ok(dots)
 }
 
 // Which part of which file the body has.
@@ -148,16 +160,4 @@ fn spec_of(settings: &Settings, plan: &Plan, part: u32) -> Result<BodySpec, Memo
         size: plan.size,
         line: settings.line,
     })
-}
-
-// How many octets the lines have, each with CRLF behind it.
-fn octets_of(lines: &Lines) -> u64
-    requires { sum_by octets_of_line lines.now ≤ MOST_OCTETS }
-    ensures { result ≡ sum_by octets_of_line lines.now }
-{
-    let mut octets = 0;
-    for i in 0..lines.len() {
-        octets += lines.line(i).len() as u64 + 2;
-    }
-    octets
 }

@@ -16,8 +16,9 @@ use std::alloc::Global;
 #[derive(Drop)]
 pub(crate) struct Desk {
     pub(crate) bytes: Bytes,
-    pub(crate) lines: Lines,
-    // The block of the article's lines, as it is sent.
+    // The lines of the article's head.
+    pub(crate) head: Lines,
+    // The block of the article, as it is sent.
     pub(crate) block: Bytes,
     // How many octets the article has before it is stuffed.
     pub(crate) octets: u64,
@@ -37,7 +38,7 @@ impl Desk {
     pub(crate) fn new(alloc: Global) -> Self {
         Desk {
             bytes: Bytes::new(alloc),
-            lines: Lines::new(alloc),
+            head: Lines::new(alloc),
             block: Bytes::new(alloc),
             octets: 0,
         }
@@ -77,7 +78,7 @@ pub(crate) fn make_part<I: Input>(
         plan,
         part,
         desk.bytes.as_slice(),
-        &mut desk.lines,
+        &mut desk.head,
         &mut desk.block,
     ) {
         Ok(octets) => {

@@ -9,9 +9,11 @@ mod laws;
 mod parts;
 mod planning;
 mod posting;
+mod room;
 mod session;
 mod session_laws;
 mod settings;
+mod wire;
 
 pub use article::write_article;
 pub use index::{PartEnd, Sent, post_index};

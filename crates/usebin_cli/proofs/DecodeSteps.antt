@@ -3,24 +3,25 @@ use Rattle.std.proofs.Common.{ℕ, List, Option, Result, Ok, Err, refl}
 use Rattle.command_words.specs.CommandLine.{BodyAsked}
 use Rattle.command_words.specs.CommandLine.Words.{Asks}
 use Rattle.command_words.specs.CommandLine.Command.{Decode}
-use Rattle.command_words.specs.declared.keys.Form.{Form}
+use Rattle.command_words.specs.declared.keys.Form.TheVariants.{Wire}
 use Rattle.input_files.specs.Reading.{Reading, Fits, IsFaultless, IsSaved, most_text}
 use Rattle.run_ends.specs.declared.end.End.{End}
 use Rattle.run_ends.specs.declared.end.End.TheVariants.{Done, NoBody, NoReply, NoMemory}
 use Rattle.yenc_body.specs.declared.part.Part.{Part}
-use Rattle.usebin_cli.specs.Decode.{Decodes, IsDecoded, ReadsLines, ReadsText}
+use Rattle.usebin_cli.specs.Decode.{Decodes, IsDecoded, ReadsText}
 use Rattle.usebin_cli.specs.Ended.{WritesBehind}
 use Rattle.usebin_cli.specs.Printed.{range_line}
+use Rattle.usebin_cli.specs.Reply.{IsReplyError}
 use Rattle.usebin_cli.specs.Steps.{FindsPart, Runs}
 use Rattle.usebin_cli.specs.Writing.{Written}
 use Rattle.usebin_cli.specs.declared.ended.Ended.{Ended}
 use Rattle.usebin_cli.proofs.EndLaws.{wrote_behind}
 
--- lines that weren't read are no text that was read
-pub not_read : (form : Form) (text : List ℕ) (end : End) → ReadsLines form text (Err end) → ReadsText form text (Err end)
-not_read form text NoMemory r = tt
-not_read form text (NoReply f) r = r
-not_read form text other r = absurd r
+-- a text that is no reply has no body
+pub no_reply : (text : List ℕ) (end : End) → IsReplyError text end → ReadsText Wire text (Err end)
+no_reply text NoMemory r = tt
+no_reply text (NoReply f) r = (refl, r)
+no_reply text other r = absurd r
 
 -- the text was read whole
 pub finds_part : (asked : BodyAsked) (files : Option (List (List ℕ × List ℕ))) (r : Reading) (text : List ℕ) (result : Result Part End) → IsFaultless r → Fits most_text r.current → IsSaved asked.path files r.current text →

@@ -54,13 +54,6 @@ ReadsText form text (Err (NoReply f)) = HasNoReply form text f
 ReadsText form text (Err (NoBody f)) = HasNoBody form text f
 ReadsText form text (Err other) = ⊥
 
--- the lines of a body were read, or not for this
-abbrev pub ReadsLines : Form → List ℕ → Result (List (List ℕ)) End → Type 0
-ReadsLines form text (Ok lines) = IsSavedAs form text lines
-ReadsLines form text (Err NoMemory) = ⊤
-ReadsLines form text (Err (NoReply f)) = HasNoReply form text f
-ReadsLines form text (Err other) = ⊥
-
 -- the bytes of such a part were written, behind its range, which was noted
 abbrev pub WroteDecoded : (List ℕ → Written → Type 0) → BodyAsked → Option (List (List ℕ × List ℕ)) → Reading → Written → Option (List ℕ) → Type 0
 WroteDecoded how asked files r w told = (p : Part) × IsDecoded asked files r.current p × how p.content w × (told ≡ Some (range_line p))

@@ -3,8 +3,9 @@ ghost use Rattle.std.specs.Prelude.{◌≡◌};
 ghost use Rattle.command_words.specs.Asked.{body_asked};
 ghost use Rattle.command_words.specs.CommandLine.Words.{Asks};
 ghost use Rattle.command_words.specs.CommandLine.Command.{Decode};
+ghost use Rattle.command_words.specs.declared.keys.Form.TheVariants.{File, Wire};
 ghost use Rattle.input_files.specs.Reading.{reading};
-ghost use Rattle.usebin_cli.specs.Decode.{Decodes, ReadsLines, ReadsText};
+ghost use Rattle.usebin_cli.specs.Decode.{Decodes, ReadsText};
 ghost use Rattle.usebin_cli.specs.Ended.{WritesBehind};
 ghost use Rattle.usebin_cli.specs.Printed.{range_line};
 ghost use Rattle.usebin_cli.specs.Steps.{FindsPart, Runs};
@@ -13,11 +14,12 @@ ghost use Rattle.usebin_cli.specs.Writing.{written};
 use crate::ended::{Ended, write_behind};
 use crate::printed::write_range;
 use crate::reply::reply_lines;
+use body_text::decode_text;
 use command_words::{DecodeWords, Form};
 use input_files::{ReadError, read_file};
 use io_traits::{Input, Sink};
 use limits::MOST_TEXT_BYTES;
-use lists::{Bytes, Lines, Memory, split_text};
+use lists::Bytes;
 use run_ends::{End, Limit};
 use std::alloc::Global;
 use yenc_body::{BodyError, Part, read_body};
@@ -53,11 +55,31 @@ fn saved_part<I: Input>(alloc: Global, asked: DecodeWords<'_>, input: &mut I) ->
     read_text(alloc, asked.form, text)
 }
 
-// The part whose body was saved in a text. The text's memory is given back before its lines are read.
+// The part whose body was saved in a text.
 fn read_text(alloc: Global, form: Form, text: Bytes) -> Result<Part, End>
     ensures { ReadsText form text result }
 {
-    let lines = match read_lines(alloc, form, text.as_slice()) {
+    match form {
+        Form::File => read_file_text(text),
+        Form::Wire => read_wire_text(alloc, text),
+    }
+}
+
+// The same of lines of a file: its bytes are left where they are decoded.
+fn read_file_text(text: Bytes) -> Result<Part, End>
+    ensures { ReadsText File text result }
+{
+    match decode_text(text) {
+        Ok(part) => Ok(part),
+        Err(fault) => Err(End::NoBody(fault)),
+    }
+}
+
+// The same of a reply off the wire. The text's memory is given back before its lines are read.
+fn read_wire_text(alloc: Global, text: Bytes) -> Result<Part, End>
+    ensures { ReadsText Wire text result }
+{
+    let lines = match reply_lines(alloc, text.as_slice()) {
         Ok(lines) => lines,
         Err(end) => return Err(end),
     };
@@ -66,19 +88,6 @@ fn read_text(alloc: Global, form: Form, text: Bytes) -> Result<Part, End>
         Ok(part) => Ok(part),
         Err(BodyError::Memory) => Err(End::NoMemory),
         Err(BodyError::Refused(fault)) => Err(End::NoBody(fault)),
-    }
-}
-
-// The lines of a body as it was saved.
-fn read_lines(alloc: Global, form: Form, text: &[u8]) -> Result<Lines, End>
-    ensures { ReadsLines form text.now result }
-{
-    match form {
-        Form::File => match split_text(alloc, text) {
-            Ok(lines) => Ok(lines),
-            Err(Memory) => Err(End::NoMemory),
-        },
-        Form::Wire => reply_lines(alloc, text),
     }
 }
 

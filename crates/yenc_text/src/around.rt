@@ -1,7 +1,7 @@
 // The text before the data lines of a body, and the one behind them.
 ghost use Rattle.std.specs.Prelude.{◌≡◌, ◌≤◌, ◌++◌, length, IfOk, OnOk};
 ghost use Rattle.limits.specs.declared.TheConstants.{MOST_FILE_BYTES};
-ghost use Rattle.yenc_body.specs.Canonical.{header, part_line, trailer, IsPart};
+ghost use Rattle.yenc_body.specs.Canonical.{header, part_line, IsPart};
 ghost use Rattle.yenc_text.specs.Text.{closing, ended, opening};
 
 use limits::MOST_KEYWORD_BYTES;
@@ -16,10 +16,7 @@ pub fn opening_of(alloc: Global, spec: &BodySpec, bytes: &[u8]) -> Result<Bytes,
     ensures { IfOk result (λ text. text ≡ opening spec.now bytes.now) }
 {
     let mut text = Bytes::new(alloc);
-    push_header(spec, &mut text)?;
-    if spec.total != 1 {
-        push_part_line(spec, bytes, &mut text)?;
-    }
+    push_opening(spec, bytes, &mut text)?;
     Ok(text)
 }
 
@@ -30,8 +27,32 @@ pub fn closing_of(alloc: Global, spec: &BodySpec, bytes: &[u8]) -> Result<Bytes,
     ensures { IfOk result (λ text. text ≡ closing spec.now bytes.now) }
 {
     let mut text = Bytes::new(alloc);
-    push_trailer(spec, bytes, &mut text)?;
+    push_closing(spec, bytes, &mut text)?;
     Ok(text)
+}
+
+/// Appends the text before the data lines of the body of a part's bytes, as `opening_of` makes it. Where memory runs out, a
+/// front of it may stand there. It takes memory for the name, too.
+pub fn push_opening(spec: &BodySpec, bytes: &[u8], text: &mut Bytes) -> Result<(), Memory>
+    requires { IsPart spec.now (length bytes.now) }
+    ensures { OnOk result (text.new ≡ text.old ++ opening spec.now bytes.now) }
+{
+    push_header(spec, text)?;
+    if spec.total != 1 {
+        push_part_line(spec, bytes, text)?;
+    }
+    Ok(())
+}
+
+/// Appends the text behind the data lines of the body of a part's bytes, as `closing_of` makes it. Where memory runs out, a
+/// front of it may stand there.
+pub fn push_closing(spec: &BodySpec, bytes: &[u8], text: &mut Bytes) -> Result<(), Memory>
+    requires { IsPart spec.now (length bytes.now) }
+    ensures { OnOk result (text.new ≡ text.old ++ closing spec.now bytes.now) }
+{
+    let mut line = [0; MOST_KEYWORD_BYTES];
+    let len = put_trailer(spec, bytes, &mut line);
+    push_line(&line[..len], text)
 }
 
 fn push_header(spec: &BodySpec, text: &mut Bytes) -> Result<(), Memory>
@@ -50,15 +71,6 @@ fn push_part_line(spec: &BodySpec, bytes: &[u8], text: &mut Bytes) -> Result<(),
 {
     let mut line = [0; MOST_KEYWORD_BYTES];
     let len = put_part_line(spec, bytes, &mut line);
-    push_line(&line[..len], text)
-}
-
-fn push_trailer(spec: &BodySpec, bytes: &[u8], text: &mut Bytes) -> Result<(), Memory>
-    requires { IsPart spec.now (length bytes.now) }
-    ensures { OnOk result (text.new ≡ text.old ++ ended (trailer spec.now bytes.now)) }
-{
-    let mut line = [0; MOST_KEYWORD_BYTES];
-    let len = put_trailer(spec, bytes, &mut line);
     push_line(&line[..len], text)
 }
 

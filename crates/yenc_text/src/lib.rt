@@ -6,6 +6,6 @@ mod around;
 mod laws;
 mod pieces;
 
-pub use around::{closing_of, opening_of};
+pub use around::{closing_of, opening_of, push_closing, push_opening};
 pub use laws::{each_part_has_text, text_of_three};
 pub use pieces::{PIECE, fill_piece};

@@ -36,4 +36,4 @@ write_article-requires-clause-bytes g c =
 pub returns-in-Ok-write_article-clause-made : goal.returns-in-Ok-write_article-clause-made
 returns-in-Ok-write_article-clause-made g c =
     let stands = part_stands c.args.settings.now c.args.plan.now c.args.part c.as_slice.result.now c.index-as_slice-part.result c.requires.settings c.requires.plan c.requires.first c.requires.last c.as_slice.ensures c.index-as_slice-part.is in
-    part_made c.args.settings.now c.args.plan.now.size _ c.args.part _ c.as_slice-2.result.now _ _ (omega (arith, stands.place_is)) (piece_of _ _ _ _ c.as_slice-2.ensures c.in-Ok.ensures.piece) (ap length c.as_slice-2.ensures ∙ c.in-Ok.ensures.length ∙ stands.len_is) c.in-Ok-write_article.ensures.ok
+    part_made c.args.settings.now c.args.plan.now.size _ c.args.part _ c.as_slice-2.result.now _ (omega (arith, stands.place_is)) (piece_of _ _ _ _ c.as_slice-2.ensures c.in-Ok.ensures.piece) (ap length c.as_slice-2.ensures ∙ c.in-Ok.ensures.length ∙ stands.len_is) c.in-Ok-write_article.ensures.ok
