@@ -45,7 +45,10 @@ fn lines_of(alloc: Global, content: &[u8]) -> usize {
 fn pieces_of(content: &[u8], piece: &mut [u8; PIECE]) -> usize {
     let mut rest = content;
     let mut text = 0usize;
-    while !rest.is_empty() {
+    for _ in 0..content.len() {
+        if rest.is_empty() {
+            return text;
+        }
         let (used, len) = fill_piece(rest, 128, piece);
         rest = rest.split_at(used).1;
         text = text.saturating_add(len);

@@ -1,9 +1,9 @@
 #!/usr/bin/env python3
 """Times the one-pass decoder and its parts on one core, beside a copy of the same bytes in the same run: the landing kernel over plain
-characters and over lines of 128 characters with escapes, the CRC, whole and in short pieces, and the decoder over the block of an
-article of random bytes, received in pieces of 65,536, beside a loop byte by byte and, where it is installed, Debian's python3-sabyenc,
-which decodes with AVX2. It builds a program of its own over copies of the crates, in a folder that it removes, which proves them: some
-minutes.
+characters and over lines of 128 characters with escapes, the gap kernel over the same lines, the CRC, whole and in short pieces, and
+the decoder over the block of an article of random bytes, received in pieces of 65,536, beside a loop byte by byte and, where it is
+installed, Debian's python3-sabyenc, which decodes with AVX2. It builds a program of its own over copies of the crates, in a folder
+that it removes, which proves them: some minutes.
 
 A further part is a function in MAIN, a call of `told`, and a row of WANTED."""
 
@@ -16,12 +16,13 @@ import zlib
 from built import build, rows_of
 from measure import PYTHON
 
-USES = ["crc_field", "landing_kernel", "fused_decoder"]
+USES = ["crc_field", "landing_kernel", "gap_kernel", "fused_decoder"]
 COPY = "copy"
 # what is wanted of a part: so many times the rate of a copy, and so many MB/s
 WANTED = {
     "land plain characters": (0.1, None),
     "land lines with escapes": (0.1, None),
+    "land lines and their escapes": (None, None),
     "crc whole": (None, 2000),
     "crc in pieces of 60": (None, None),
     "decode a block": (None, 1000),
@@ -32,6 +33,7 @@ MAIN = """//! Times the parts of the decoder.
 
 use crc_field::Crc;
 use fused_decoder::{Event, Fused};
+use gap_kernel::land_spellings;
 use landing_kernel::land;
 use std::fs::File;
 use std::io::{self, Read};
@@ -86,6 +88,22 @@ fn land_all(buf: &mut [u8]) -> usize {
     to
 }
 
+// The same with the escapes among them.
+fn land_all_spellings(buf: &mut [u8]) -> usize {
+    let end = buf.len();
+    let mut from = 0usize;
+    let mut to = 0usize;
+    for _ in 0..end {
+        if to > from || from >= end {
+            break;
+        }
+        let run = land_spellings(buf, from, to, end);
+        to = to.saturating_add(run.landed);
+        from = from.saturating_add(run.used).saturating_add(2);
+    }
+    to
+}
+
 fn sum_pieces(bytes: &[u8]) -> u32 {
     let mut crc = Crc::new();
     for k in 0..bytes.len() / PIECE {
@@ -121,6 +139,11 @@ fn measure(rt: &HostRuntime, text: &[u8], lines: &[u8], buf: &mut [u8]) -> io::R
     let start = Instant::now(rt)?;
     let count = land_all(buf);
     told(rt, "land lines with escapes", start, count)?;
+
+    buf.copy_from_slice(lines);
+    let start = Instant::now(rt)?;
+    let count = land_all_spellings(buf);
+    told(rt, "land lines and their escapes", start, count)?;
 
     let start = Instant::now(rt)?;
     let sum = sum_whole(lines);

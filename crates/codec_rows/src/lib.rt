@@ -11,9 +11,13 @@ mod bodies;
 #[cfg(test)]
 mod decoding;
 #[cfg(test)]
+mod draws;
+#[cfg(test)]
 mod in_place;
 #[cfg(test)]
 mod landings;
+#[cfg(test)]
+mod long_lines;
 #[cfg(test)]
 mod reading;
 #[cfg(test)]

@@ -1,0 +1,4 @@
+mod Marks
+mod Places
+pub mod Spellings
+mod Blocks

@@ -1,0 +1,3 @@
+pub use Rattle.yenc_bytes.specs.DataLine
+pub mod Landing
+pub mod Blocks
