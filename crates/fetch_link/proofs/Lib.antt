@@ -1,0 +1,12 @@
+pub mod Hearing
+pub mod Blocks
+pub mod HeadRange
+pub mod Moves
+pub mod Counted
+pub mod Given
+pub mod InArticle
+pub mod Stepped
+pub mod Shown
+pub mod InLine
+pub mod Calls
+pub mod Verdict
