@@ -1,0 +1,9 @@
+pub mod Bodies
+pub mod Checking
+pub mod Damage
+pub mod Firsts
+pub mod Laws
+pub mod PacketLength
+pub mod Packets
+pub mod Runs
+pub mod Set
