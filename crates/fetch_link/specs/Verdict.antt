@@ -19,7 +19,8 @@ Stood Unasked against range = against ≡ None
 Stood On against range = against ≡ None
 Stood Away against range = (clash : Clash) × (fixed : Range) × (against ≡ Some clash) × (range ≡ Some fixed)
 
--- where the file's accepted parts have this size, or none are
+-- The verdict that an ending is, where this stood against the article and the file's accepted parts have this size, or none are: a part of
+-- another size isn't accepted, and one that was turned away clashes.
 abbrev pub IsVerdict : Ending → Option Clash → Option ℕ → Verdict → Type 0
 IsVerdict (ending.Accepted crc whole) against kept verdict = (part : Part) × (crc ≡ crc32 part.content) × (verdict ≡ sized part whole (other_size part.begin.size kept))
 IsVerdict (ending.Refused fault) against kept verdict = verdict ≡ Refused fault

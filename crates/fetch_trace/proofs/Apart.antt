@@ -1,5 +1,5 @@
 -- What happens on one link leaves the others, the segments and the ranges as they are.
-use Rattle.std.proofs.Common.{◌≡◌, ◌≢◌, ◌+◌, ℕ, Bool, true, false, List, [], ◌∷◌, ◌++◌, Option, Some, None, drop, length, zero, suc, refl, ap, sym, subst, ◌∙◌, arith}
+use Rattle.std.proofs.Common.{◌≡◌, ◌≢◌, ◌≤◌, ◌+◌, ℕ, Bool, true, false, List, [], ◌∷◌, ◌++◌, Option, Some, None, drop, length, zero, suc, refl, ap, sym, subst, ◌∙◌, arith}
 use Rattle.std.specs.Prelude.{slice_get, cond, is_some}
 use Rattle.lists.specs.Edit.{edit_at}
 use Rattle.io_traits.specs.declared.links.LinkEvent.{LinkEvent}
@@ -62,10 +62,11 @@ live_edited s t i l false here edited = edited
 pub record HeardEdited (s t : Standing) (i : ℕ) (l : LinkNow) : Type 0 where
   pub edited : Edited s t i l
   pub commands : edited.now.asking.commands ≡ l.asking.commands
+  pub answered : length l.asking.verdicts ≤ length edited.now.asking.verdicts
 
 live_heard : (s t : Standing) (i : ℕ) (l : LinkNow) (b : Bool) → slice_get s.links i ≡ Some l → HeardEdited s t i l → HeardEdited s (cond b s t) i l
 unfolding unedited
-live_heard s t i l true here edited = record { edited = unedited s i l here; commands = refl }
+live_heard s t i l true here edited = record { edited = unedited s i l here; commands = refl; answered = omega arith }
 live_heard s t i l false here edited = edited
 
 pub byte_edited : (s : Standing) (i byte : ℕ) (l : LinkNow) → slice_get s.links i ≡ Some l → HeardEdited s (hears_byte byte i l s) i l
@@ -73,7 +74,7 @@ byte_edited s i byte l here =
     let hearing = after_byte byte l.hearing in
     let whole = whole_by l.hearing.waiting (l.hearing.rest ++ byte ∷ []) in
     let to = replies_becomes s i l hearing whole (is_ready l) in
-    live_heard s (replies_by hearing whole (is_ready l) i l s) i l (is_over l) here (record { edited = record { now = to.now; links = to.links; opening = to.opening_is }; commands = to.commands_are })
+    live_heard s (replies_by hearing whole (is_ready l) i l s) i l (is_over l) here (record { edited = record { now = to.now; links = to.links; opening = to.opening_is }; commands = to.commands_are; answered = to.answered })
 
 pub quiet_edited : (s : Standing) (i patience : ℕ) (l : LinkNow) → slice_get s.links i ≡ Some l → HeardEdited s (is_quiet patience i l s) i l
 quiet_edited s i patience l here =
@@ -81,12 +82,12 @@ quiet_edited s i patience l here =
     let lost = loses hearing i l s in
     let goes_on = with_link i (with_hearing hearing l) s in
     let to = either s lost goes_on i l hearing (is_some hearing.over) (loses_becomes s i l hearing) (as_heard s i l hearing) in
-    live_heard s (cond (is_some hearing.over) lost goes_on) i l (is_over l) here (record { edited = record { now = to.now; links = to.links; opening = to.opening_is }; commands = to.commands_are })
+    live_heard s (cond (is_some hearing.over) lost goes_on) i l (is_over l) here (record { edited = record { now = to.now; links = to.links; opening = to.opening_is }; commands = to.commands_are; answered = to.answered })
 
 pub lost_edited : (s : Standing) (i : ℕ) (l : LinkNow) → slice_get s.links i ≡ Some l → HeardEdited s (is_lost i l s) i l
 lost_edited s i l here =
     let to = loses_becomes s i l (after_end l.hearing) in
-    live_heard s (loses (after_end l.hearing) i l s) i l (is_over l) here (record { edited = record { now = to.now; links = to.links; opening = to.opening_is }; commands = to.commands_are })
+    live_heard s (loses (after_end l.hearing) i l s) i l (is_over l) here (record { edited = record { now = to.now; links = to.links; opening = to.opening_is }; commands = to.commands_are; answered = to.answered })
 
 sent_edited : (setting : Setting) (s : Standing) (i : ℕ) (l : LinkNow) (bytes : List ℕ) → slice_get s.links i ≡ Some l → Edited s (sends setting bytes i l s) i l
 sent_edited setting s i l bytes here =
@@ -138,18 +139,20 @@ moved_apart setting s (event.Ended n) =
 
 -- ---- the ranges
 
--- the ranges of segments that weren't asked on the link
+-- the ranges of segments that aren't asked on the link without an answer
 abbrev SameRanges : Standing → LinkNow → Standing → Type 0
-SameRanges s l t = (segment : ℕ) → times segment l.asking.commands ≡ 0 → slice_get t.entries segment ≡ slice_get s.entries segment
+SameRanges s l t = (segment : ℕ) → times segment (waiting_of l.asking) ≡ 0 → slice_get t.entries segment ≡ slice_get s.entries segment
 
-none_behind : (n segment : ℕ) (commands : List ℕ) → times segment commands ≡ 0 → times segment (drop n commands) ≡ 0
-none_behind zero segment commands none = none
-none_behind (suc n) segment [] none = none
-none_behind (suc n) segment (command ∷ commands) none = none_behind n segment commands (omega (arith, none))
+none_behind : (n m segment : ℕ) (commands : List ℕ) → n ≤ m → times segment (drop n commands) ≡ 0 → times segment (drop m commands) ≡ 0
+none_behind zero zero segment commands less none = none
+none_behind zero (suc m) segment [] less none = none
+none_behind zero (suc m) segment (command ∷ commands) less none = none_behind zero m segment commands (omega arith) (omega (arith, none))
+none_behind (suc n) zero segment commands less none = absurd (omega (arith, less))
+none_behind (suc n) (suc m) segment [] less none = none
+none_behind (suc n) (suc m) segment (command ∷ commands) less none = none_behind n m segment commands (omega (arith, less)) none
 
-other_than : (l : LinkNow) (oldest segment : ℕ) (waiting : List ℕ) → waiting_of l.asking ≡ oldest ∷ waiting → times segment l.asking.commands ≡ 0 → segment ≢ oldest
-other_than l oldest segment waiting is none same =
-    let few : times segment (waiting_of l.asking) ≡ 0 = none_behind (length l.asking.verdicts) segment l.asking.commands none in
+other_than : (l : LinkNow) (oldest segment : ℕ) (waiting : List ℕ) → waiting_of l.asking ≡ oldest ∷ waiting → times segment (waiting_of l.asking) ≡ 0 → segment ≢ oldest
+other_than l oldest segment waiting is few same =
     let all : times segment (waiting_of l.asking) ≡ times segment (oldest ∷ waiting) = ap (times segment) is in
     let one : times segment (oldest ∷ []) ≡ 1 = ap (λ k. times segment (k ∷ [])) (sym same) ∙ one_time segment in
     let both : times segment (oldest ∷ waiting) ≡ times segment (oldest ∷ []) + times segment waiting = times-append segment (oldest ∷ []) waiting in
@@ -159,7 +162,7 @@ claims_same : (s : Standing) (i : ℕ) (l : LinkNow) (hearing : Hearing) (oldest
 claims_same s i l hearing oldest waiting range None is segment none = edited_other s.entries oldest segment (λ entry. record { file = entry.file; hold = Held; first = range.first; last = range.last }) (other_than l oldest segment waiting is none)
 claims_same s i l hearing oldest waiting range (Some clash) is segment none = refl
 
-given_same : (s : Standing) (l : LinkNow) (waiting : List ℕ) (segment : ℕ) → waiting_of l.asking ≡ waiting → times segment l.asking.commands ≡ 0 → slice_get (given_up_on waiting s.entries) segment ≡ slice_get s.entries segment
+given_same : (s : Standing) (l : LinkNow) (waiting : List ℕ) (segment : ℕ) → waiting_of l.asking ≡ waiting → times segment (waiting_of l.asking) ≡ 0 → slice_get (given_up_on waiting s.entries) segment ≡ slice_get s.entries segment
 given_same s l [] segment is none = refl
 given_same s l (oldest ∷ waiting) segment is none = (gives_up s.entries oldest).others segment (other_than l oldest segment waiting is none)
 
@@ -207,14 +210,19 @@ here_leaves setting s t n i l place here apart keeps ranges = record {
       (let same : i ≡ j = one_some i j (sym place ∙ at) in
       let both : Some m ≡ Some l = sym there ∙ ap (λ p. slice_get s.links p) (sym same) ∙ here in
       let own : m ≡ l = cc in
-      ranges segment (ap (λ (a : LinkNow). times segment a.asking.commands) (sym own) ∙ none));
+      ranges segment (ap (λ (a : LinkNow). times segment (waiting_of a.asking)) (sym own) ∙ none));
 }
 
--- what a byte leaves, and that the commands stay
+-- what a byte leaves, and that a segment that isn't awaited on the link is awaited no more
 record ByteLeaves (setting : Setting) (s t : Standing) (n : ℕ) : Type 0 where
   leaves : LeavesOthers setting s t n
   kept : IsKept setting t
-  commands : (i : ℕ) (l : LinkNow) → place_from 0 n s.links ≡ Some i → slice_get s.links i ≡ Some l → (now : LinkNow) × ((slice_get t.links i ≡ Some now) × (now.asking.commands ≡ l.asking.commands))
+  commands : (i : ℕ) (l : LinkNow) → place_from 0 n s.links ≡ Some i → slice_get s.links i ≡ Some l → (now : LinkNow) × ((slice_get t.links i ≡ Some now) × ((segment : ℕ) → times segment (waiting_of l.asking) ≡ 0 → times segment (waiting_of now.asking) ≡ 0))
+
+-- more answers to the same commands leave no more of them without one
+fewer_awaited : (l now : LinkNow) (segment : ℕ) → now.asking.commands ≡ l.asking.commands → length l.asking.verdicts ≤ length now.asking.verdicts → times segment (waiting_of l.asking) ≡ 0 → times segment (waiting_of now.asking) ≡ 0
+fewer_awaited l now segment same more none =
+    ap (λ (cs : List ℕ). times segment (drop (length now.asking.verdicts) cs)) same ∙ none_behind (length l.asking.verdicts) (length now.asking.verdicts) segment l.asking.commands more none
 
 byte_leaves : (setting : Setting) (s : Standing) (n i byte : ℕ) (l : LinkNow) → IsKept setting s → place_from 0 n s.links ≡ Some i → slice_get s.links i ≡ Some l → ByteLeaves setting s (hears_byte byte i l s) n
 byte_leaves setting s n i byte l kept place here =
@@ -226,16 +234,21 @@ byte_leaves setting s n i byte l kept place here =
       commands = λ j m at there.
           (let same : i ≡ j = one_some i j (sym place ∙ at) in
           let both : Some m ≡ Some l = sym there ∙ ap (λ p. slice_get s.links p) (sym same) ∙ here in
-          let own : m ≡ l = cc in
-          (e.edited.now, (ap (λ p. slice_get (hears_byte byte i l s).links p) (sym same) ∙ ap (λ (ls : List LinkNow). slice_get ls i) e.edited.links ∙ get_now s.links i l e.edited.now here, e.commands ∙ ap (λ (a : LinkNow). a.asking.commands) (sym own))));
+          let own : m ≡ l = cc in (
+            e.edited.now,
+            (
+              ap (λ p. slice_get (hears_byte byte i l s).links p) (sym same) ∙ ap (λ (ls : List LinkNow). slice_get ls i) e.edited.links ∙ get_now s.links i l e.edited.now here,
+              λ segment none. fewer_awaited l e.edited.now segment e.commands e.answered (ap (λ (a : LinkNow). times segment (waiting_of a.asking)) (sym own) ∙ none),
+            ),
+          ));
     }
 
 bytes_leave : (setting : Setting) (s : Standing) (n : ℕ) (bytes : List ℕ) → IsKept setting s → ByteLeaves setting s (hears bytes n s) n
-bytes_leave setting s n [] kept = record { leaves = same_leaves setting s n; kept = kept; commands = λ i l at here. (l, (here, refl)) }
+bytes_leave setting s n [] kept = record { leaves = same_leaves setting s n; kept = kept; commands = λ i l at here. (l, (here, λ segment none. none)) }
 bytes_leave setting s n (byte ∷ bytes) kept =
     let t = on_number (hears_byte byte) n s in
     let u = hears bytes n t in
-    let none : ByteLeaves setting s s n = record { leaves = same_leaves setting s n; kept = kept; commands = λ i l at here. (l, (here, refl)) } in
+    let none : ByteLeaves setting s s n = record { leaves = same_leaves setting s n; kept = kept; commands = λ i l at here. (l, (here, λ segment none. none)) } in
     let first : ByteLeaves setting s t n = at_number (λ v. ByteLeaves setting s v n) (hears_byte byte) n s none (λ i l place here. byte_leaves setting s n i byte l kept place here) in
     let second : ByteLeaves setting t u n = bytes_leave setting t n bytes first.kept in
     let one = first.leaves in
@@ -247,13 +260,13 @@ bytes_leave setting s n (byte ∷ bytes) kept =
         segments = λ i segment at. keeps_then (pipeline_of setting s.links) (pipeline_of setting t.links) (pipeline_of setting u.links) i segment (one.segments i segment at) (two.segments i segment (one.places n ∙ at));
         entries = λ i segment l at here none.
             (let now = first.commands i l at here in
-            two.entries i segment now.0 (one.places n ∙ at) now.1.0 (ap (times segment) now.1.1 ∙ none) ∙ one.entries i segment l at here none);
+            two.entries i segment now.0 (one.places n ∙ at) now.1.0 (now.1.1 segment none) ∙ one.entries i segment l at here none);
       };
       kept = second.kept;
       commands = λ i l at here.
           (let now = first.commands i l at here in
           let later = second.commands i now.0 (one.places n ∙ at) now.1.0 in
-          (later.0, (later.1.0, later.1.1 ∙ now.1.1)));
+          (later.0, (later.1.0, λ segment none. later.1.1 segment (now.1.1 segment none))));
     }
 
 rests_leaves : (setting : Setting) (s t : Standing) (n : ℕ) (last : Option ℕ) → LeavesOthers setting s t n → LeavesOthers setting s (with_last last t) n

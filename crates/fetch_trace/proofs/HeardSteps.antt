@@ -1,5 +1,5 @@
 -- Each event keeps what is carried of a link in step with what the link's own events say.
-use Rattle.std.proofs.Common.{◌≡◌, ◌≢◌, ◌<◌, ◌⊎◌, inl, inr, ℕ, Bool, true, false, not, ◌||◌, List, [], ◌∷◌, ◌++◌, Option, Some, None, length, drop, map, refl, ap, sym, subst, ◌∙◌, arith, append_assoc, append-nil, length-append}
+use Rattle.std.proofs.Common.{◌≡◌, ◌≢◌, ◌<◌, ◌⊎◌, inl, inr, ℕ, Bool, true, false, not, ◌||◌, List, [], ◌∷◌, ◌++◌, Option, Some, None, length, drop, map, refl, ap, sym, subst, ◌∙◌, arith, append_assoc, append-nil, length-append, ◌≤◌}
 use Rattle.std.specs.Prelude.{cond, is_some, ◌==◌}
 use Rattle.std.proofs.lemmas.List.{map-append}
 use Rattle.io_traits.specs.declared.links.LinkEvent.{LinkEvent}
@@ -44,12 +44,13 @@ pub record Becomes (s after : Standing) (i : ℕ) (l : LinkNow) (hearing : Heari
   pub opening_is : now.opening ≡ l.opening
   pub saying_is : now.saying ≡ l.saying
   pub commands_are : now.asking.commands ≡ l.asking.commands
+  pub answered : length l.asking.verdicts ≤ length now.asking.verdicts
 
 pub as_heard : (s : Standing) (i : ℕ) (l : LinkNow) (hearing : Hearing) → Becomes s (with_link i (with_hearing hearing l) s) i l hearing
-as_heard s i l hearing = record { now = with_hearing hearing l; links = refl; hearing_is = refl; opening_is = refl; saying_is = refl; commands_are = refl }
+as_heard s i l hearing = record { now = with_hearing hearing l; links = refl; hearing_is = refl; opening_is = refl; saying_is = refl; commands_are = refl; answered = omega arith }
 
 claims_by_becomes : (s : Standing) (i : ℕ) (l : LinkNow) (hearing : Hearing) (segment : ℕ) (range : Range) (clash : Option Clash) → Becomes s (claims_by hearing segment range clash i l s) i l hearing
-claims_by_becomes s i l hearing segment range None = record { now = with_hearing hearing l; links = refl; hearing_is = refl; opening_is = refl; saying_is = refl; commands_are = refl }
+claims_by_becomes s i l hearing segment range None = record { now = with_hearing hearing l; links = refl; hearing_is = refl; opening_is = refl; saying_is = refl; commands_are = refl; answered = omega arith }
 claims_by_becomes s i l hearing segment range (Some clash) = record {
   now = with_asking hearing (record { commands = l.asking.commands; verdicts = l.asking.verdicts; against = Some clash }) l;
   links = refl;
@@ -57,6 +58,7 @@ claims_by_becomes s i l hearing segment range (Some clash) = record {
   opening_is = refl;
   saying_is = refl;
   commands_are = refl;
+  answered = omega arith;
 }
 
 claims_becomes : (s : Standing) (i : ℕ) (l : LinkNow) (hearing : Hearing) (before now : Option Range) (waiting : List ℕ) → Becomes s (claims hearing before now waiting i l s) i l hearing
@@ -77,6 +79,7 @@ loses_becomes s i l hearing = record {
   opening_is = refl;
   saying_is = refl;
   commands_are = refl;
+  answered = omega arith;
 }
 
 pub either : (s one two : Standing) (i : ℕ) (l : LinkNow) (hearing : Hearing) (b : Bool) → Becomes s one i l hearing → Becomes s two i l hearing → Becomes s (cond b one two) i l hearing
@@ -92,6 +95,7 @@ answers_becomes s i l hearing reply (segment ∷ waiting) = record {
   opening_is = refl;
   saying_is = refl;
   commands_are = refl;
+  answered = (let more = length-append l.asking.verdicts (verdict_of l.asking.against (kept_size (file_at s.entries segment) s.entries) reply ∷ []) in omega (arith, more));
 }
 
 pub replies_becomes : (s : Standing) (i : ℕ) (l : LinkNow) (hearing : Hearing) (whole : Option Reply) (b : Bool) → Becomes s (replies_by hearing whole b i l s) i l hearing

@@ -266,6 +266,7 @@ told_on setting own l on =
     record {
       said = on.said;
       full = on.full;
+      goes = on.goes;
       asks = on.asks;
       replies = ap (λ (ms : List Message). replies_heard setting.patience (asked_by ms) own) (sym same) ∙ both.0;
       over = ap (λ (ms : List Message). why_over setting.patience (asked_by ms) own) (sym same) ∙ both.1;

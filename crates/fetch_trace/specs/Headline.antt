@@ -24,7 +24,7 @@ abbrev pub IsOf : Setting → ℕ → ℕ → Type 0
 IsOf setting file segment = (entry : Entry) × ((slice_get setting.entries segment ≡ Some entry) × (entry.file ≡ file))
 
 -- A file that was posted in parts, one for each segment: its bytes, the lines of each part's article, and what they are read as.
--- That articles of a poster are so is a law of the poster: the canonical body reads back, and the parts cover the file.
+-- That the articles of a poster are so is a law (CutIsPosted): the canonical body reads back, and the parts cover the file.
 pub record IsPosted (setting : Setting) (file : ℕ) (bytes : List ℕ) (lines : ℕ → List (List ℕ)) (part : ℕ → Part) : Type 0 where
   pub some : (segment : ℕ) × IsOf setting file segment
   pub reads : (segment : ℕ) → IsOf setting file segment → body_of (lines segment) ≡ Ok (part segment)
@@ -66,8 +66,8 @@ IsHeardWhole s segment = (i : ℕ) × ((l : LinkNow) × ((slice_get s.links i �
 abbrev pub WasKept : Setting → ℕ → Type 0
 WasKept setting segment = is_kept (slice_get setting.entries segment) ≡ true
 
--- The ranges of the file that are accepted from the start are those of its parts, and the file that was there has the posted bytes
--- in them.
+-- The ranges of the file that are accepted from the start are those of its parts, of a file of its size, and the file that was there has
+-- the posted bytes in them.
 pub record AreKept (setting : Setting) (file : ℕ) (bytes : List ℕ) (part : ℕ → Part) (base : List ℕ) : Type 0 where
   pub first : (segment size : ℕ) (entry : Entry) → slice_get setting.entries segment ≡ Some entry → entry.file ≡ file → entry.hold ≡ Accepted size → entry.first ≡ (part segment).first
   pub last : (segment size : ℕ) (entry : Entry) → slice_get setting.entries segment ≡ Some entry → entry.file ≡ file → entry.hold ≡ Accepted size → entry.last ≡ (part segment).last
@@ -91,13 +91,14 @@ pub record IsCompleted (setting : Setting) (file : ℕ) (bytes : List ℕ) (part
   pub missing : (offset : ℕ) → 1 ≤ offset → offset ≤ length bytes →
       (is_covered file s.entries offset ≡ false) ↔ ((segment : ℕ) × (IsOf setting file segment × (((part segment).first ≤ offset) × ((offset ≤ (part segment).last) × (IsThere setting s segment → ⊥)))))
 
--- Where every answer to a segment of a posted file, up to the end, is that of the part's posted article or says that it is absent.
+-- Where every answer to a segment of a posted file, up to the end, is that of the part's posted article or says that it is absent, the
+-- file is completed.
 abbrev pub Completeness : Type 0
 Completeness =
     (setting : Setting) (events : List LinkEvent) (file : ℕ) (bytes : List ℕ) (lines : ℕ → List (List ℕ)) (part : ℕ → Part) (base : List ℕ) → NoneHeld setting.entries → AreKept setting file bytes part base →
     IsPosted setting file bytes lines part → AnswersArePosted setting file bytes lines part (standing_at setting events) → IsCompleted setting file bytes part base (standing_at setting events)
 
--- no range of the file is accepted from the start
+-- no range of the file is accepted or held from the start
 abbrev pub IsFresh : Setting → ℕ → Type 0
 IsFresh setting file = (segment : ℕ) (entry : Entry) → slice_get setting.entries segment ≡ Some entry → entry.file ≡ file → entry.hold ≡ Free
 

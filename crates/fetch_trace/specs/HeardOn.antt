@@ -55,10 +55,12 @@ pub record HeardOn (setting : Setting) (own : List LinkEvent) (l : LinkNow) : Ty
   pub asks : bodies_of said ≡ map (body_message setting) l.asking.commands
   pub hears : (more : List Message) → AreFull more → HeardAs setting.patience (asked_by (said ++ more)) (fine own) l.hearing
 
--- in the words of link_dialog: the replies that are heard whole on the link, and why it is over
+-- In the words of link_dialog: some messages went out, the last one perhaps in part, and what they ask for tells the replies that are
+-- heard whole on the link, and why it is over.
 pub record ToldOn (setting : Setting) (own : List LinkEvent) (l : LinkNow) : Type 0 where
   pub said : List Message
   pub full : AreFull said
+  pub goes : IsSaid own l.saying.kind said l.saying.unsent
   pub asks : bodies_of said ≡ map (body_message setting) l.asking.commands
   pub replies : replies_heard setting.patience (asked_by said) own ≡ l.hearing.replies
   pub over : why_over setting.patience (asked_by said) own ≡ l.hearing.over

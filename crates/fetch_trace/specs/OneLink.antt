@@ -7,7 +7,7 @@ use Rattle.pipeline_core.specs.PipelineAt.{Pipeline}
 use Rattle.pipeline_core.specs.Pipeline.{segment_state}
 use Rattle.pipeline_core.specs.declared.state.SegmentState.TheVariants.{Outstanding, Arrived, Exhausted}
 use Rattle.fetch_trace.specs.Setting.{Setting}
-use Rattle.fetch_trace.specs.LinkNow.{LinkNow}
+use Rattle.fetch_trace.specs.LinkNow.{LinkNow, waiting_of}
 use Rattle.fetch_trace.specs.Standing.{Standing, pipeline_of, place_from, on_number}
 use Rattle.fetch_trace.specs.Moving.{hears_byte, moved, standing_at}
 
@@ -19,12 +19,12 @@ pub record Keeps (before after : Pipeline) (i segment : ℕ) : Type 0 where
 
 -- From one standing to another, by what happens on the link with this number: each other link stands as it did, with its replies,
 -- its rest and why it is over; the segments are kept that have arrived, are exhausted or are outstanding elsewhere; and the ranges
--- are those that were, but for articles of this link.
+-- are those that were, but for the articles that are awaited on this link.
 pub record LeavesOthers (setting : Setting) (s t : Standing) (n : ℕ) : Type 0 where
   pub others : (k : ℕ) (l : LinkNow) → place_from 0 n s.links ≢ Some k → slice_get s.links k ≡ Some l → slice_get t.links k ≡ Some l
   pub places : (other : ℕ) → place_from 0 other t.links ≡ place_from 0 other s.links
   pub segments : (i segment : ℕ) → place_from 0 n s.links ≡ Some i → Keeps (pipeline_of setting s.links) (pipeline_of setting t.links) i segment
-  pub entries : (i segment : ℕ) (l : LinkNow) → place_from 0 n s.links ≡ Some i → slice_get s.links i ≡ Some l → times segment l.asking.commands ≡ 0 → slice_get t.entries segment ≡ slice_get s.entries segment
+  pub entries : (i segment : ℕ) (l : LinkNow) → place_from 0 n s.links ≡ Some i → slice_get s.links i ≡ Some l → times segment (waiting_of l.asking) ≡ 0 → slice_get t.entries segment ≡ slice_get s.entries segment
 
 -- a byte that is heard
 abbrev pub OneLinkMoves : Type 0

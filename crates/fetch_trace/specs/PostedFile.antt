@@ -1,5 +1,6 @@
 -- A file as a poster cuts it into parts, and the articles that a poster makes of them (yEnc draft 1.3, "Multi-part Encoded Binaries").
 use Rattle.std.specs.Prelude.{◌≡◌, ◌<◌, ◌≤◌, ◌^◌, ℕ, List, [], None, Result, Ok, Err, length, All}
+use Rattle.limits.specs.declared.TheConstants.{LEAST_LINE, MOST_LINE, MOST_PART_BYTES}
 use Rattle.yenc_lines.specs.Name.{IsName}
 use Rattle.yenc_body.specs.declared.part.Part.{Part}
 use Rattle.yenc_body.specs.declared.fault.Fault.{Fault}
@@ -19,10 +20,10 @@ pub record IsCut (setting : Setting) (file : ℕ) (bytes name : List ℕ) (line 
   pub are_bytes : All (λ b. b < 256) bytes
   pub few_bytes : length bytes ≤ most_bytes
   pub few_parts : parts_of (length bytes) part_size < 2 ^ 32
-  pub line_least : 64 ≤ line
-  pub line_most : line ≤ 997
+  pub line_least : LEAST_LINE ≤ line
+  pub line_most : line ≤ MOST_LINE
   pub part_least : 1 ≤ part_size
-  pub part_most : part_size ≤ 16777216
+  pub part_most : part_size ≤ MOST_PART_BYTES
   pub numbered : (segment : ℕ) → IsOf setting file segment → (1 ≤ number segment) × (number segment ≤ parts_of (length bytes) part_size)
   pub once : (segment other : ℕ) → IsOf setting file segment → IsOf setting file other → number segment ≡ number other → segment ≡ other
   pub each : (part : ℕ) → 1 ≤ part → part ≤ parts_of (length bytes) part_size → (segment : ℕ) × (IsOf setting file segment × (number segment ≡ part))

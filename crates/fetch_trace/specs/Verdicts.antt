@@ -62,6 +62,7 @@ range_of bytes = range_of_block (block_of (first_line bytes))
 
 -- ---- verdicts
 
+-- What an answer says of its segment. Beside an accepted part stands the CRC-32 of the whole file that its trailer line gave, if it did.
 pub data Verdict : Type 0 where
   Accepted : (part : Part) (whole : Option ℕ) → Verdict
   Absent : (code : ℕ) → Verdict
